@@ -1,0 +1,18 @@
+-- What a call answers, in document 01's terms: what was read and the next position, or a refusal's number and place.
+use mathlib.Core.Bool.{Bool, true, false}
+use Prim.Native.Nat.{ℕ}
+
+pub data Answer (A : Type 0) : Type 0 where
+  given : A → ℕ → Answer A
+  refused : ℕ → ℕ → Answer A
+
+-- what comes after a read: it goes on with what was read and the next position; a refusal stays as it is
+infixl 20 _then_
+abbrev pub _then_ : {A B : Type 0} → Answer A → (A → ℕ → Answer B) → Answer B
+given a n then f = f a n
+refused k p then f = refused k p
+
+-- the first where the test holds, else the second
+abbrev pub pick : {A : Type 0} → Bool → A → A → A
+pick true a b = a
+pick false a b = b

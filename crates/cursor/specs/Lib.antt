@@ -1,0 +1,6 @@
+-- The definitions that the contracts of `cursor` cite.
+pub mod Answer
+pub mod Refusals
+pub mod Reads
+pub mod Text
+pub mod Answers

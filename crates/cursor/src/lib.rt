@@ -1,0 +1,292 @@
+// A position in a lent slice of bytes, and the reads at it. The Rust: utils/byte_cursor.rs and utils/bytes.rs.
+//
+// A cursor goes in by value, with the slice lent beside it. Each read answers an enum: what was read and the next cursor,
+// or a refusal with document 01's number and place. Every call takes every position and every slice.
+mod raw;
+
+ghost use mathlib.Core.Path.{_≡_};
+ghost use Rattle.cursor.specs.Answers.{u8Answer, u16Answer, u32Answer, u64Answer, movedAnswer, takenAnswer, textAnswer};
+ghost use Rattle.cursor.specs.Reads.{setTo, numberAt, takeAt, partOf, sidAt, arrayAt};
+ghost use Rattle.cursor.specs.Text.{countedAt, prefixedAt, zeroEndedAt};
+
+// Why a call refuses: document 01's number and place. One struct for all crates.
+pub struct Refusal {
+    pub number: u8,
+    pub place: usize,
+}
+
+impl Refusal {
+    pub const WRONG_LENGTH: u8 = 1;
+
+    pub const PAST_END: u8 = 2;
+
+    pub const TOO_FEW_BYTES: u8 = 3;
+
+    pub const WRONG_MAGIC: u8 = 4;
+
+    pub const SMALL_RECORD: u8 = 5;
+
+    pub const LATE_FILETIME: u8 = 6;
+
+    pub const UNKNOWN_TYPE: u8 = 7;
+
+    pub const TYPE_NOT_READ: u8 = 8;
+
+    pub const UNKNOWN_TOKEN: u8 = 9;
+
+    pub const UNEVEN_ARRAY: u8 = 10;
+
+    pub const NAME_NOT_ENDED: u8 = 11;
+
+    pub const NAME_HASH: u8 = 12;
+
+    pub const NO_BODY: u8 = 13;
+
+    pub const TOO_DEEP: u8 = 14;
+
+    pub const UNFINISHED: u8 = 15;
+
+    pub const NO_ROOM: u8 = 16;
+
+    pub const SIZE_COPY: u8 = 17;
+}
+
+// A position in a slice.
+pub struct Cursor {
+    pub at: usize,
+}
+
+// A part of a slice, by where it starts and how long it is.
+pub struct Part {
+    pub start: usize,
+    pub len: usize,
+}
+
+// What of a text is shown: its bytes before its first zero unit.
+pub struct View {
+    pub part: Part,
+}
+
+pub enum ReadU8 {
+    Value(u8, Cursor),
+    Refused(Refusal),
+}
+
+pub enum ReadU16 {
+    Value(u16, Cursor),
+    Refused(Refusal),
+}
+
+pub enum ReadU32 {
+    Value(u32, Cursor),
+    Refused(Refusal),
+}
+
+pub enum ReadU64 {
+    Value(u64, Cursor),
+    Refused(Refusal),
+}
+
+pub enum Moved {
+    To(Cursor),
+    Refused(Refusal),
+}
+
+pub enum Taken {
+    Bytes(Part, Cursor),
+    Refused(Refusal),
+}
+
+pub enum Text {
+    Units(View, Cursor),
+    Refused(Refusal),
+}
+
+impl Part {
+    // The part itself, of the caller's slice; nothing where it does not lie within.
+    pub fn of(self, s: &[u8]) -> &[u8]
+        ensures { λ r. ⌜ now r ≡ partOf (now (s .entry)) self ⌝ }
+    {
+        let start = self.start;
+        let len = self.len;
+        if raw::stands(s, start, len) {
+            &s[start..start + len]
+        } else {
+            &s[..0]
+        }
+    }
+}
+
+impl Cursor {
+    // A cursor at a position. The end itself is allowed.
+    pub fn with_pos(s: &[u8], pos: usize) -> Moved
+        ensures { λ r. ⌜ movedAnswer r ≡ setTo (now (s .entry)) pos ⌝ }
+    {
+        if s.len() < pos {
+            return Moved::Refused(Refusal {
+                number: Refusal::PAST_END,
+                place: pos,
+            });
+        }
+        Moved::To(Cursor { at: pos })
+    }
+
+    // The cursor set to another position, which is all that counts.
+    pub fn set_pos(self, s: &[u8], pos: usize) -> Moved
+        ensures { λ r. ⌜ movedAnswer r ≡ setTo (now (s .entry)) pos ⌝ }
+    {
+        Cursor::with_pos(s, pos)
+    }
+
+    pub fn take_bytes(self, s: &[u8], len: usize) -> Taken
+        ensures { λ r. ⌜ takenAnswer r ≡ takeAt (now (s .entry)) (self .at) len ⌝ }
+    {
+        let at = self.at;
+        if raw::stands(s, at, len) {
+            Taken::Bytes(
+                Part {
+                    start: at,
+                    len: len,
+                },
+                Cursor { at: at + len },
+            )
+        } else {
+            Taken::Refused(raw::too_few_bytes(at))
+        }
+    }
+
+    pub fn u8(self, s: &[u8]) -> ReadU8
+        ensures { λ r. ⌜ u8Answer r ≡ numberAt (now (s .entry)) (self .at) 1 ⌝ }
+    {
+        let at = self.at;
+        if raw::stands(s, at, 1) {
+            ReadU8::Value(raw::one(s, at), Cursor { at: at + 1 })
+        } else {
+            ReadU8::Refused(raw::too_few_bytes(at))
+        }
+    }
+
+    pub fn u16(self, s: &[u8]) -> ReadU16
+        ensures { λ r. ⌜ u16Answer r ≡ numberAt (now (s .entry)) (self .at) 2 ⌝ }
+    {
+        let at = self.at;
+        if raw::stands(s, at, 2) {
+            ReadU16::Value(raw::two(s, at), Cursor { at: at + 2 })
+        } else {
+            ReadU16::Refused(raw::too_few_bytes(at))
+        }
+    }
+
+    pub fn u32(self, s: &[u8]) -> ReadU32
+        ensures { λ r. ⌜ u32Answer r ≡ numberAt (now (s .entry)) (self .at) 4 ⌝ }
+    {
+        let at = self.at;
+        if raw::stands(s, at, 4) {
+            ReadU32::Value(raw::four(s, at), Cursor { at: at + 4 })
+        } else {
+            ReadU32::Refused(raw::too_few_bytes(at))
+        }
+    }
+
+    pub fn u64(self, s: &[u8]) -> ReadU64
+        ensures { λ r. ⌜ u64Answer r ≡ numberAt (now (s .entry)) (self .at) 8 ⌝ }
+    {
+        let at = self.at;
+        if raw::stands(s, at, 8) {
+            ReadU64::Value(raw::eight(s, at), Cursor { at: at + 8 })
+        } else {
+            ReadU64::Refused(raw::too_few_bytes(at))
+        }
+    }
+
+    // A SID: 8 bytes, of which byte 1 says how many groups of 4 bytes follow.
+    pub fn read_sid(self, s: &[u8]) -> Taken
+        ensures { λ r. ⌜ takenAnswer r ≡ sidAt (now (s .entry)) (self .at) ⌝ }
+    {
+        let at = self.at;
+        if raw::stands(s, at, 8) {
+            let groups = raw::one(s, at + 1) as usize;
+            self.take_bytes(s, 8 + 4 * groups)
+        } else {
+            Taken::Refused(raw::too_few_bytes(at))
+        }
+    }
+
+    // An array of elements of `width` bytes, `size` bytes in all.
+    pub fn read_array(self, s: &[u8], width: usize, size: usize) -> Taken
+        ensures { λ r. ⌜ takenAnswer r ≡ arrayAt (now (s .entry)) (self .at) width size ⌝ }
+    {
+        let at = self.at;
+        if size == 0 {
+            return self.take_bytes(s, 0);
+        }
+        if width == 0 {
+            return Taken::Refused(raw::too_few_bytes(at));
+        }
+        if size % width != 0 {
+            return Taken::Refused(Refusal {
+                number: Refusal::UNEVEN_ARRAY,
+                place: at,
+            });
+        }
+        self.take_bytes(s, size)
+    }
+
+    // Counted units: n units of UTF-16 in one read, and their view.
+    pub fn utf16_by_char_count(self, s: &[u8], n: usize) -> Text
+        ensures { λ r. ⌜ textAnswer r ≡ countedAt (now (s .entry)) (self .at) n ⌝ }
+    {
+        let at = self.at;
+        if s.len() / 2 < n {
+            return Text::Refused(raw::too_few_bytes(at));
+        }
+        let bytes = 2 * n;
+        if raw::stands(s, at, bytes) {
+            Text::Units(raw::view(s, at, bytes), Cursor { at: at + bytes })
+        } else {
+            Text::Refused(raw::too_few_bytes(at))
+        }
+    }
+
+    // A u16 count, the counted units, and a zero unit after them where the text is terminated. (That unit's value is not looked at.)
+    pub fn len_prefixed_utf16_string(self, s: &[u8], terminated: bool) -> Text
+        ensures { λ r. ⌜ textAnswer r ≡ prefixedAt (now (s .entry)) (self .at) terminated ⌝ }
+    {
+        match self.u16(s) {
+            ReadU16::Value(n, next) => {
+                let text = next.utf16_by_char_count(s, n as usize);
+                if terminated {
+                    raw::ended(text, s)
+                } else {
+                    text
+                }
+            }
+            ReadU16::Refused(r) => Text::Refused(r),
+        }
+    }
+
+    // Units up to a zero unit, which is read too. Each unit is a read of its own.
+    pub fn null_terminated_utf16_string(self, s: &[u8]) -> Text
+        ensures { λ r. ⌜ textAnswer r ≡ zeroEndedAt (now (s .entry)) (self .at) ⌝ }
+    {
+        let at = self.at;
+        if s.len() < at {
+            return Text::Refused(raw::too_few_bytes(at));
+        }
+        let t = &s[at..];
+        let n = raw::before_zero(t);
+        if n < t.len() / 2 {
+            Text::Units(
+                View {
+                    part: Part {
+                        start: at,
+                        len: 2 * n,
+                    },
+                },
+                Cursor { at: at + 2 * n + 2 },
+            )
+        } else {
+            Text::Refused(raw::too_few_bytes(at + 2 * n))
+        }
+    }
+}
