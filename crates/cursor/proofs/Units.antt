@@ -1,11 +1,12 @@
 -- Units of two bytes, and the first zero among them. Assumes nothing.
 use mathlib.Core.Path.{_≡_, refl, sym, ap, _∙_}
 use mathlib.Core.List.{List, [], _∷_}
-use Prim.Native.Nat.{ℕ, suc, _+_, _-_, _*_, _/_, _≤_, _<_}
+use Prim.Native.Nat.{ℕ, zero, suc, _+_, _-_, _*_, _/_, _≤_, _<_}
+use native.Mathlib.Numerals.{add-one}
 use native.Mathlib.Omega.{arith}
 use borrow.Author.Tests.{eq-eqb, ne-eqb, lt-ltb, le-ltb}
-use lib.ListN.{length, take, drop, length-take, length-drop}
-use lib.Seq.{drop-drop, take-all}
+use lib.ListN.{length, take, drop, getD, length-take, length-drop, drop-of-length-le}
+use lib.Seq.{drop-cons, take-all}
 use lib.Dec.{eqb}
 use Rattle.cursor.specs.Reads.{little, bytesOf}
 use Rattle.cursor.proofs.Choice.{either}
@@ -19,44 +20,29 @@ units-length [] = refl
 units-length (a ∷ []) = refl
 units-length (a ∷ (b ∷ t)) = omega (arith, units-length t)
 
--- two bytes and more: the first unit is their number
-pub first-unit : (t : List ℕ) → 2 ≤ length t → unitsOf t ≡ little (bytesOf t 0 2) ∷ unitsOf (drop 2 t)
+-- the unit n is the number of its two bytes
+pub unit-is : (t : List ℕ) (n : ℕ) → n < length t / 2 → getD (unitsOf t) n 0 ≡ little (bytesOf t (2 * n) 2)
 unfolding unitsOf little
-first-unit [] h = absurd (omega arith)
-first-unit (a ∷ []) h = absurd (omega arith)
-first-unit (a ∷ (b ∷ t)) h =
-    let e : a + 256 * b ≡ a + 256 * (b + 256 * 0) = omega arith in
-    ap (λ (u : ℕ). u ∷ unitsOf t) e
+unit-is [] n h = absurd (omega arith)
+unit-is (a ∷ []) n h = absurd (omega arith)
+unit-is (a ∷ (b ∷ t)) zero h = omega arith
+unit-is (a ∷ (b ∷ t)) (suc n) h =
+    let e : 2 * suc n ≡ suc (suc (2 * n)) = omega arith in
+    unit-is t n (omega arith) ∙ ap (λ (m : ℕ). little (bytesOf (a ∷ (b ∷ t)) m 2)) (sym e)
 
-pub no-unit : (t : List ℕ) → length t < 2 → unitsOf t ≡ []
-unfolding unitsOf
-no-unit [] h = refl
-no-unit (a ∷ []) h = refl
-no-unit (a ∷ (b ∷ t)) h = absurd (omega arith)
-
--- at the unit n of t: the first zero is here, later, or nowhere
-module _ (t : List ℕ) (n : ℕ) where
-  pub unit-at : 2 * n + 2 ≤ length t → unitsOf (drop (2 * n) t) ≡ little (bytesOf t (2 * n) 2) ∷ unitsOf (drop (2 * (n + 1)) t)
-  unit-at h =
-      let k : 2 ≤ length (drop (2 * n) t) = simp length-drop (omega arith) in
-      let e : 2 * n + 2 ≡ 2 * (n + 1) = omega arith in
-      first-unit (drop (2 * n) t) k
-      ∙ ap (λ (r : List ℕ). little (bytesOf t (2 * n) 2) ∷ unitsOf r) (drop-drop 2 (2 * n) t ∙ ap (λ (m : ℕ). drop m t) e)
-
-  pub zero-here : 2 * n + 2 ≤ length t → little (bytesOf t (2 * n) 2) ≡ 0 → beforeZero (unitsOf (drop (2 * n) t)) ≡ 0
+-- at the unit n: the first zero is here, later, or nowhere
+module _ (us : List ℕ) (n : ℕ) where
+  pub zero-here : n < length us → getD us n 0 ≡ 0 → beforeZero (drop n us) ≡ 0
   unfolding beforeZero
-  zero-here h z = rw (unit-at h, eq-eqb _ _ z)
+  zero-here h z = rw (drop-cons us n 0 h, eq-eqb _ _ z)
 
-  pub zero-later : 2 * n + 2 ≤ length t → (little (bytesOf t (2 * n) 2) ≡ 0 → ⊥)
-      → beforeZero (unitsOf (drop (2 * n) t)) ≡ beforeZero (unitsOf (drop (2 * (n + 1)) t)) + 1
+  pub zero-later : n < length us → (getD us n 0 ≡ 0 → ⊥) → beforeZero (drop n us) ≡ beforeZero (drop (n + 1) us) + 1
   unfolding beforeZero
-  zero-later h z = rw (unit-at h, ne-eqb _ _ z)
+  zero-later h z = rw (drop-cons us n 0 h, add-one n, ne-eqb _ _ z)
 
-  pub zero-nowhere : length t / 2 ≤ n → beforeZero (unitsOf (drop (2 * n) t)) ≡ 0
+  pub zero-nowhere : length us ≤ n → beforeZero (drop n us) ≡ 0
   unfolding beforeZero
-  zero-nowhere h =
-      let k : length (drop (2 * n) t) < 2 = simp length-drop (omega arith) in
-      rw (no-unit (drop (2 * n) t) k)
+  zero-nowhere h = rw (drop-of-length-le us h)
 
 pub before-length : (us : List ℕ) → beforeZero us ≤ length us
 unfolding beforeZero

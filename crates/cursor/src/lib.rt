@@ -5,9 +5,10 @@
 mod raw;
 
 ghost use mathlib.Core.Path.{_≡_};
+ghost use lib.ListN.{getD};
 ghost use Rattle.cursor.specs.Answers.{u8Answer, u16Answer, u32Answer, u64Answer, movedAnswer, takenAnswer, textAnswer};
 ghost use Rattle.cursor.specs.Reads.{setTo, numberAt, takeAt, partOf, sidAt, arrayAt};
-ghost use Rattle.cursor.specs.Text.{countedAt, prefixedAt, zeroEndedAt};
+ghost use Rattle.cursor.specs.Text.{unitsOf, countedAt, prefixedAt, zeroEndedAt};
 
 // Why a call refuses: document 01's number and place. One struct for all crates.
 pub struct Refusal {
@@ -100,6 +101,17 @@ pub enum Taken {
 pub enum Text {
     Units(View, Cursor),
     Refused(Refusal),
+}
+
+// The unit n of a run of units, or 0 past its end.
+pub fn unit_at(units: &[u8], n: usize) -> u16
+    ensures { λ r. ⌜ r ≡ getD (unitsOf (now (units .entry))) n 0 ⌝ }
+{
+    if n < units.len() / 2 {
+        raw::two(units, 2 * n)
+    } else {
+        0
+    }
 }
 
 impl Part {

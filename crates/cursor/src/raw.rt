@@ -5,6 +5,7 @@ use crate::ReadU16;
 use crate::Refusal;
 use crate::Text;
 use crate::View;
+use crate::unit_at;
 ghost use mathlib.Core.Path.{_≡_};
 ghost use Prim.Native.Nat.{_+_, _*_, _≤_};
 ghost use lib.ListN.{length};
@@ -84,7 +85,7 @@ pub fn before_zero(t: &[u8]) -> usize
 {
     let mut n: usize = 0;
     while n < t.len() / 2 {
-        if two(t, 2 * n) == 0 {
+        if unit_at(t, n) == 0 {
             return n;
         }
         n += 1;
