@@ -1,0 +1,3 @@
+-- The definitions that the contracts of `name` cite.
+pub mod Hash
+pub mod Name

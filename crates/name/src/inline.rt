@@ -1,0 +1,93 @@
+// Inline names: hash, count, units, zero unit. Each unit is a read of its own.
+use crate::Name;
+use crate::NameRead;
+use crate::name_hash;
+use cursor::Cursor;
+use cursor::ReadU16;
+use cursor::Refusal;
+ghost use mathlib.Core.Path.{_≡_};
+ghost use Prim.Native.Nat.{_+_, _*_, _≤_};
+ghost use lib.ListN.{length};
+ghost use Rattle.cursor.specs.Reads.{bytesOf};
+ghost use Rattle.cursor.specs.Text.{unitsOf};
+ghost use Rattle.name.specs.Name.{nameAnswer, inlineNameAt, afterHash, afterCount, afterUnits, judged};
+
+pub fn read_inline_name(c: Cursor, s: &[u8]) -> NameRead
+    ensures { λ r. ⌜ nameAnswer r ≡ inlineNameAt (now (s .entry)) (c .at) ⌝ }
+{
+    match c.u16(s) {
+        ReadU16::Value(hash, next) => after_hash(c.at, hash, next, s),
+        ReadU16::Refused(r) => NameRead::Refused(r),
+    }
+}
+
+fn after_hash(start: usize, hash: u16, c: Cursor, s: &[u8]) -> NameRead
+    ensures { λ r. ⌜ nameAnswer r ≡ afterHash (now (s .entry)) start hash (c .at) ⌝ }
+{
+    match c.u16(s) {
+        ReadU16::Value(n, next) => after_count(start, hash, n, next, s),
+        ReadU16::Refused(r) => NameRead::Refused(r),
+    }
+}
+
+// All units are there, or one is cut.
+fn after_count(start: usize, hash: u16, n: u16, c: Cursor, s: &[u8]) -> NameRead
+    ensures { λ r. ⌜ nameAnswer r ≡ afterCount (now (s .entry)) start hash n (c .at) ⌝ }
+{
+    let at = c.at;
+    let count = n as usize;
+    if s.len() < at {
+        return NameRead::Refused(Refusal {
+            number: Refusal::TOO_FEW_BYTES,
+            place: at,
+        });
+    }
+    let there = (s.len() - at) / 2;
+    if there < count {
+        return NameRead::Refused(Refusal {
+            number: Refusal::TOO_FEW_BYTES,
+            place: at + 2 * there,
+        });
+    }
+    after_units(
+        Name {
+            offset: start,
+            units: at,
+            count: count,
+        },
+        hash,
+        s,
+    )
+}
+
+// The zero unit after units that are there.
+fn after_units(name: Name, hash: u16, s: &[u8]) -> NameRead
+    requires { ⌜ name .units + 2 * name .count ≤ length (now s) ⌝ }
+    ensures { λ r. ⌜ nameAnswer r ≡ afterUnits (now (s .entry)) name hash (unitsOf (bytesOf (now (s .entry)) (name .units) (2 * name .count))) (name .units + 2 * name .count) ⌝ }
+{
+    let start = name.units;
+    let end = start + 2 * name.count;
+    let after = Cursor { at: end };
+    match after.u16(s) {
+        ReadU16::Value(last, next) => judge(name, hash, last, name_hash(&s[start..end]), next),
+        ReadU16::Refused(r) => NameRead::Refused(r),
+    }
+}
+
+fn judge(name: Name, stored: u16, last: u16, hash: u16, next: Cursor) -> NameRead
+    ensures { λ r. ⌜ nameAnswer r ≡ judged name stored last hash (next .at) ⌝ }
+{
+    if last != 0 {
+        return NameRead::Refused(Refusal {
+            number: Refusal::NAME_NOT_ENDED,
+            place: name.offset,
+        });
+    }
+    if stored != hash {
+        return NameRead::Refused(Refusal {
+            number: Refusal::NAME_HASH,
+            place: name.offset,
+        });
+    }
+    NameRead::Read(name, next)
+}
