@@ -1,3 +1,3 @@
 -- Laws that the proofs here cite.
-pub mod Mixing
+pub mod Hash
 pub mod Each

@@ -7,9 +7,9 @@ use lib.ListN.{length, drop}
 use Rattle.cursor.specs.Text.{unitsOf}
 use Rattle.cursor.proofs.Units.{units-length}
 use Rattle.name.specs.Hash.{hashFrom, mixed}
-use Rattle.name.proofs.Mixing.{hash-more, hash-end}
-use Rattle.name.proofs.hash.name_hash.Statement.{statement}
-use Rattle.name.proofs.hash.name_hash.Tie as tie
+use Rattle.name.proofs.Hash.{hash-more, hash-end}
+use Rattle.name.proofs.name_hash.Statement.{statement}
+use Rattle.name.proofs.name_hash.Tie as tie
 
 abbrev Inv-loop : tie.InvT-loop
 Inv-loop units h₀ n₀ h n = (n ≤ length units / 2) × (hashFrom 0 (unitsOf units) ≡ hashFrom h (drop n (unitsOf units)))

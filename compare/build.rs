@@ -1,0 +1,79 @@
+//! Writes the file that names the printed modules.
+//!
+//! The printed files are compiled from where they stand and are not copied: the file made here
+//! points at each of them by its full path. `EVTX_SRC` names the folder that holds them (the one
+//! with INDEX.md); a relative one counts from the repository's root.
+
+use std::path::{Path, PathBuf};
+use std::{env, fs};
+
+/// The folder beside the repository's checkout.
+const DEFAULT_SOURCES: &str = "../shared/docs/src";
+
+fn main() {
+    println!("cargo::rerun-if-env-changed=EVTX_SRC");
+    let package = PathBuf::from(env::var_os("CARGO_MANIFEST_DIR").expect("set by cargo"));
+    let root = package.parent().expect("the repository's root");
+    let named = env::var_os("EVTX_SRC").map(PathBuf::from);
+    let sources = root.join(named.unwrap_or_else(|| DEFAULT_SOURCES.into()));
+    let Ok(sources) = sources.canonicalize() else {
+        panic!(
+            "no printed Rust at {}: set EVTX_SRC to the folder with INDEX.md",
+            sources.display()
+        );
+    };
+
+    let out = PathBuf::from(env::var_os("OUT_DIR").expect("set by cargo"));
+    let text = modules(&sources.join("src"), &package.join("src"));
+    fs::write(out.join("printed.rs"), text).expect("OUT_DIR takes a file");
+}
+
+/// The module tree of the printed crate. Its places are those of the crate, since the files name
+/// each other by `crate::` paths.
+fn modules(printed: &Path, ours: &Path) -> String {
+    let by_path = |file: &str, item: &str| {
+        let path = source(printed, file);
+        format!("#[allow(warnings, clippy::all)]\n#[path = {path:?}]\n{item}\n")
+    };
+    let standin = |file: &str, item: &str| {
+        let path = ours.join("standins").join(file);
+        format!("#[path = {path:?}]\n{item}\n")
+    };
+
+    let mut text = String::new();
+    text += &by_path("err.rs", "pub mod err;");
+    text += &by_path("evtx_record.rs", "mod evtx_record;");
+    text += &by_path("string_cache.rs", "mod string_cache;");
+    text += &by_path("utils/mod.rs", "mod utils;");
+    for file in ["byte_cursor", "bytes", "parse_error", "utf16", "windows"] {
+        source(printed, &format!("utils/{file}.rs"));
+    }
+
+    // The walk's state and its steps are private to evtx_chunk.rs. Its text is taken into a
+    // module that has one child of ours, which may see them.
+    let walk = source(printed, "evtx_chunk.rs");
+    let child = ours.join("oracle").join("raw_walk.rs");
+    text += &format!(
+        "#[allow(warnings, clippy::all)]\nmod evtx_chunk {{\ninclude!({walk:?});\n\
+         #[warn(warnings)]\n#[path = {child:?}]\npub(crate) mod raw_walk;\n}}\n"
+    );
+
+    text += "pub mod binxml {\n";
+    text += &by_path("binxml/name.rs", "pub mod name;");
+    text += &by_path("binxml/tokens.rs", "pub(crate) mod tokens;");
+    text += &by_path("binxml/value_variant.rs", "pub mod value_variant;");
+    text += "pub use tokens::BinXmlTemplateValues;\n";
+    text += &standin("compiled.rs", "pub(crate) mod compiled;");
+    text += &standin("content.rs", "pub(crate) mod ir;");
+    text += &standin("value_render.rs", "pub(crate) mod value_render;");
+    text += "}\n";
+    text
+}
+
+/// The full path of a printed file; a change to it builds anew.
+fn source(printed: &Path, file: &str) -> PathBuf {
+    let path = printed.join(file);
+    assert!(path.is_file(), "the printed Rust has no {file}");
+    println!("cargo::rerun-if-changed={}", path.display());
+    path
+}

@@ -1,0 +1,25 @@
+//! The printed Rust as an oracle: its answers, in document 01's numbers and places.
+
+pub mod batch;
+pub mod chunk;
+pub mod differences;
+pub mod leaves;
+pub mod refusal;
+pub mod tokens;
+mod values;
+
+/// Document 01's length of a chunk, and its limit for a stream.
+const CHUNK_SIZE: usize = 65536;
+
+/// Bytes as the batch format writes them: lower-case hex, `-` where there are none.
+fn hex(bytes: &[u8]) -> String {
+    use std::fmt::Write;
+    if bytes.is_empty() {
+        return "-".to_owned();
+    }
+    let mut text = String::with_capacity(2 * bytes.len());
+    for byte in bytes {
+        write!(text, "{byte:02x}").expect("a String takes all");
+    }
+    text
+}

@@ -1,0 +1,313 @@
+//! The token side: the walk with each token's place and length, and the single instance.
+//!
+//! The printed walk hands a token to its sink and says nothing of where it stood. Both ends are
+//! got from the printed walk all the same:
+//! - A walk of length 1 is one round of its loop, since each round takes at least one byte. So
+//!   rounds can be run one by one, each from where the one before ended.
+//! - Where a round ends: the cursor never stands past the end of its data, and a round that reads
+//!   on does not look at how much data there is. So a round that ends at q succeeds on the data
+//!   cut off at q, and on no shorter data. The least such cut is searched for.
+//!
+//! A round that hands out nothing is a fragment header, or the end of the walk where it is one
+//! byte long. The rounds are held against the whole walk: same kinds of tokens, same end.
+
+use crate::binxml::BinXmlTemplateValues;
+use crate::binxml::tokens::{Stream, TokenSink, ends_stream, single_instance_offset, walk_tokens};
+use crate::binxml::value_variant::BinXmlValue;
+use crate::err::Result as EvtxResult;
+use crate::evtx_chunk::raw_walk;
+use crate::oracle::differences::{Met, of_token};
+use crate::oracle::refusal::Refusal;
+use crate::oracle::{CHUNK_SIZE, hex, values};
+use crate::utils::Utf16LeSlice;
+use crate::{Bump, ChunkOffset, EvtxChunk, WINDOWS_1252};
+use std::fmt::Write;
+
+/// A token as the printed walk hands it out.
+#[derive(Debug, Clone)]
+enum Token<'a> {
+    Instance(BinXmlTemplateValues<'a>),
+    Open(ChunkOffset, Option<u16>),
+    CloseStart,
+    CloseEmpty,
+    CloseElement,
+    Value(BinXmlValue<'a>),
+    Attribute(ChunkOffset),
+    EntityRef(ChunkOffset),
+    PiTarget(ChunkOffset),
+    PiData(Utf16LeSlice<'a>),
+    Cdata(Utf16LeSlice<'a>),
+    CharRef(u16),
+    Substitution(u16, bool),
+}
+
+impl Token<'_> {
+    /// Document 01's number of the kind.
+    fn kind(&self) -> u8 {
+        match self {
+            Token::Instance(_) => 1,
+            Token::Open(..) => 2,
+            Token::CloseStart => 3,
+            Token::CloseEmpty => 4,
+            Token::CloseElement => 5,
+            Token::Value(_) => 6,
+            Token::Attribute(_) => 7,
+            Token::EntityRef(_) => 8,
+            Token::PiTarget(_) => 9,
+            Token::PiData(_) => 10,
+            Token::Cdata(_) => 11,
+            Token::CharRef(_) => 12,
+            Token::Substitution(..) => 13,
+        }
+    }
+}
+
+/// A sink that keeps all tokens.
+struct Kept<'a>(Vec<Token<'a>>);
+
+impl<'a> Kept<'a> {
+    fn keep(&mut self, token: Token<'a>) -> EvtxResult<()> {
+        self.0.push(token);
+        Ok(())
+    }
+}
+
+impl<'a> TokenSink<'a> for Kept<'a> {
+    fn template_instance(&mut self, template: BinXmlTemplateValues<'a>) -> EvtxResult<()> {
+        self.keep(Token::Instance(template))
+    }
+    fn open_start(&mut self, name: ChunkOffset, dependency: Option<u16>) -> EvtxResult<()> {
+        self.keep(Token::Open(name, dependency))
+    }
+    fn close_start(&mut self) -> EvtxResult<()> {
+        self.keep(Token::CloseStart)
+    }
+    fn close_empty(&mut self) -> EvtxResult<()> {
+        self.keep(Token::CloseEmpty)
+    }
+    fn close_element(&mut self) -> EvtxResult<()> {
+        self.keep(Token::CloseElement)
+    }
+    fn value(&mut self, value: BinXmlValue<'a>) -> EvtxResult<()> {
+        self.keep(Token::Value(value))
+    }
+    fn attribute(&mut self, name: ChunkOffset) -> EvtxResult<()> {
+        self.keep(Token::Attribute(name))
+    }
+    fn entity_ref(&mut self, name: ChunkOffset) -> EvtxResult<()> {
+        self.keep(Token::EntityRef(name))
+    }
+    fn pi_target(&mut self, name: ChunkOffset) -> EvtxResult<()> {
+        self.keep(Token::PiTarget(name))
+    }
+    fn pi_data(&mut self, data: Utf16LeSlice<'a>) -> EvtxResult<()> {
+        self.keep(Token::PiData(data))
+    }
+    fn cdata(&mut self, text: Utf16LeSlice<'a>) -> EvtxResult<()> {
+        self.keep(Token::Cdata(text))
+    }
+    fn char_ref(&mut self, ch: u16) -> EvtxResult<()> {
+        self.keep(Token::CharRef(ch))
+    }
+    fn substitution(&mut self, id: u16, optional: bool) -> EvtxResult<()> {
+        self.keep(Token::Substitution(id, optional))
+    }
+}
+
+/// How a stream is walked.
+#[derive(Clone, Copy)]
+struct Walker<'a> {
+    /// The printed walk takes names for inline ones exactly where it is given no chunk; it looks
+    /// at nothing in it.
+    chunk: Option<&'a EvtxChunk<'a>>,
+    dependencies: bool,
+}
+
+impl<'a> Walker<'a> {
+    /// The printed walk over `data`, with the tokens before a refusal.
+    fn walk(
+        self,
+        data: &'a [u8],
+        start: usize,
+        length: usize,
+        bump: &'a Bump,
+    ) -> (Vec<Token<'a>>, Result<(), Refusal>) {
+        let stream = Stream {
+            data,
+            chunk: self.chunk,
+            ansi_codec: WINDOWS_1252,
+            bump,
+        };
+        let mut kept = Kept(Vec::new());
+        let end = walk_tokens(stream, start, length, self.dependencies, &mut kept);
+        (kept.0, end.map_err(|err| Refusal::of_walk(&err)))
+    }
+
+    /// The kind of the token that one round from `at` hands out, if it hands out one.
+    fn round(self, data: &[u8], at: usize) -> Result<Option<u8>, Refusal> {
+        let bump = Bump::new();
+        let (tokens, end) = self.walk(data, at, 1, &bump);
+        end.map(|()| tokens.first().map(Token::kind))
+    }
+
+    /// Where the round from `at`, which succeeds on all of `data`, ends.
+    fn round_end(self, data: &[u8], at: usize) -> usize {
+        let fits = |cut: usize| self.round(&data[..cut], at).is_ok();
+        // No cut up to `short` suffices, the cut `long` does.
+        let (mut short, mut long) = (at, data.len());
+        let mut reach = 1;
+        while at + reach < long {
+            if fits(at + reach) {
+                long = at + reach;
+            } else {
+                short = at + reach;
+                reach *= 2;
+            }
+        }
+        while long - short > 1 {
+            let middle = short + (long - short) / 2;
+            if fits(middle) {
+                long = middle;
+            } else {
+                short = middle;
+            }
+        }
+        long
+    }
+
+    /// Place and end of each of the tokens that the whole walk handed out, by rounds, and where
+    /// the last round started.
+    fn places(
+        self,
+        data: &[u8],
+        start: usize,
+        length: usize,
+        tokens: &[Token<'_>],
+        end: Result<(), Refusal>,
+    ) -> (Vec<(usize, usize)>, usize) {
+        let mut places = Vec::with_capacity(tokens.len());
+        let mut at = start;
+        let rounds_end = loop {
+            if at >= start + length {
+                break Ok(());
+            }
+            let handed = match self.round(data, at) {
+                Ok(handed) => handed,
+                Err(refusal) => break Err(refusal),
+            };
+            let next = self.round_end(data, at);
+            match handed {
+                Some(kind) => {
+                    assert_eq!(tokens.get(places.len()).map(Token::kind), Some(kind));
+                    places.push((at, next));
+                }
+                None if next == at + 1 => break Ok(()),
+                None => {}
+            }
+            at = next;
+        };
+        assert_eq!((places.len(), rounds_end), (tokens.len(), end));
+        (places, at)
+    }
+}
+
+/// Mode T.
+pub fn answer_walk(
+    data: &[u8],
+    start: usize,
+    length: usize,
+    dependencies: bool,
+    inline_names: bool,
+    out: &mut String,
+) -> Met {
+    let mut met = Met::new();
+    // Document 01's rule: the printed walk knows no such limit.
+    if data.len() > CHUNK_SIZE {
+        out.push_str("refused 1 0\n");
+        return met;
+    }
+    let bump = Bump::new();
+    let header = raw_walk::blank_header();
+    let chunk = raw_walk::bare_chunk(data, &header, false);
+    let walker = Walker {
+        chunk: (!inline_names).then_some(&chunk),
+        dependencies,
+    };
+    let (tokens, end) = walker.walk(data, start, length, &bump);
+    let (places, last) = if start > data.len() {
+        // No round can be run.
+        (Vec::new(), start)
+    } else {
+        walker.places(data, start, length, &tokens, end)
+    };
+
+    for (token, (place, next)) in tokens.iter().zip(places) {
+        write!(out, "{place} {} {}", next - place, token.kind()).expect("a String takes all");
+        push_fields(data, token, place, next, out, &mut met);
+        out.push('\n');
+    }
+    match end {
+        Ok(()) => writeln!(out, "ok {}", tokens.len()),
+        Err(Refusal { number, place }) => {
+            of_token(data, last, false, &mut met);
+            writeln!(out, "refused {number} {place}")
+        }
+    }
+    .expect("a String takes all");
+    met
+}
+
+/// Adds what a token's line holds after its kind, with a space before each field.
+fn push_fields(
+    data: &[u8],
+    token: &Token<'_>,
+    place: usize,
+    next: usize,
+    out: &mut String,
+    met: &mut Met,
+) {
+    let mut exact = true;
+    match token {
+        Token::CloseStart | Token::CloseEmpty | Token::CloseElement => Ok(()),
+        Token::Open(name, Some(dependency)) => write!(out, " {name} {dependency}"),
+        Token::Open(name, None) => write!(out, " {name} -"),
+        Token::Attribute(name) | Token::EntityRef(name) | Token::PiTarget(name) => {
+            write!(out, " {name}")
+        }
+        Token::PiData(text) | Token::Cdata(text) => write!(out, " {}", hex(text.as_bytes())),
+        Token::CharRef(number) => write!(out, " {number}"),
+        Token::Substitution(number, optional) => write!(out, " {number} {}", u8::from(*optional)),
+        Token::Value(value) => {
+            let (start, code) = (place + 2, data[place + 1]);
+            let content = values::content(code, value, &data[start..next]);
+            write!(out, " {code:02x}:-:{start}:{next}:{content}")
+        }
+        Token::Instance(instance) => {
+            let values = values::of_instance(data, instance, place, next);
+            exact = values.exact;
+            let guid = instance.template_guid.as_ref();
+            let guid = guid.map_or("-".to_owned(), |guid| hex(guid.as_bytes()));
+            let (id, definition) = (instance.template_id, instance.template_def_offset);
+            write!(out, " {id} {definition} {guid} {}", values.fields.len()).and_then(|()| {
+                let mut fields = values.fields.iter();
+                fields.try_for_each(|field| write!(out, " {field}"))
+            })
+        }
+    }
+    .expect("a String takes all");
+    of_token(data, place, exact, met);
+}
+
+/// Mode S.
+pub fn answer_single(stream: &[u8], consumed: usize, out: &mut String) {
+    match single_instance_offset(stream) {
+        Some(offset) => writeln!(out, "single {offset}"),
+        None => writeln!(out, "single none"),
+    }
+    .expect("a String takes all");
+    out.push_str(match ends_stream(stream, consumed) {
+        Some(true) => "ends yes\n",
+        Some(false) => "ends no\n",
+        None => "ends none\n",
+    });
+}

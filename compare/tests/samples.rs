@@ -1,0 +1,199 @@
+//! Document 01's samples, as far as the printed Rust has a call for them, through the oracle.
+
+mod common;
+
+use common::{case, hex};
+use compare::oracle::leaves;
+use compare::oracle::refusal::Refusal;
+
+fn answers(batch: &[u8]) -> String {
+    common::answers(batch, false)
+}
+
+/// The walk over a whole stream, offset names, no dependencies.
+fn walk(text: &str) -> String {
+    let data = hex(text);
+    answers(&case(b'T', 0, 0, data.len() as u32, &data))
+}
+
+#[test]
+fn empty_streams() {
+    assert_eq!(answers(&case(b'T', 0, 0, 0, &[])), "ok 0\n.\n");
+    assert_eq!(answers(&case(b'T', 0, 0, 1, &[])), "refused 3 0\n.\n");
+    assert_eq!(answers(&case(b'T', 0, 1, 0, &[])), "refused 2 1\n.\n");
+}
+
+#[test]
+fn unknown_token() {
+    assert_eq!(walk("10"), "refused 9 1\n.\n");
+}
+
+#[test]
+fn element_and_its_dependency() {
+    let plain = "0 9 2 512 -\n9 1 4\nok 2\n.\n";
+    assert_eq!(walk("01 00000000 00020000 03 00"), plain);
+    let with_dependency = |text: &str| {
+        let data = hex(text);
+        answers(&case(b'T', 1, 0, data.len() as u32, &data))
+    };
+    let none = "0 11 2 512 -\n11 1 4\nok 2\n.\n";
+    let zero = "0 11 2 512 0\n11 1 4\nok 2\n.\n";
+    assert_eq!(with_dependency("01 FFFF 00000000 00020000 03 00"), none);
+    assert_eq!(with_dependency("01 0000 00000000 00020000 03 00"), zero);
+}
+
+#[test]
+fn value_alone() {
+    let read = "0 8 6 01:-:2:8:t41004200\nok 1\n.\n";
+    assert_eq!(walk("05 01 0200 4100 4200"), read);
+}
+
+#[test]
+fn inline_name_hash() {
+    let name = |hash| leaves::name(&hex(&format!("{hash} 0200 4100 4200 0000")), 0, true);
+    assert_eq!(name("4110"), Ok((0, 10)));
+    assert_eq!(name("4210"), Err(Refusal::new(12, 0)));
+}
+
+/// The instance sample with one value of this size and type, and `value` as its bytes.
+fn instance(size: u8, code: u8, value: &str) -> String {
+    walk(&format!(
+        "0C 01 07000000 00020000 01000000 {size:02X}00 {code:02X}00 {value}"
+    ))
+}
+
+#[test]
+fn instance_values() {
+    // The sample's size is 2: the read of four bytes goes past it, and the walk stays there.
+    let past = "0 22 1 7 512 - 1 08:2:18:22:u42\nok 1\n.\n";
+    assert_eq!(instance(2, 0x08, "2A000000"), past);
+    let exact = "0 22 1 7 512 - 1 08:4:18:22:u42\nok 1\n.\n";
+    assert_eq!(instance(4, 0x08, "2A000000"), exact);
+    let short = "0 24 1 7 512 - 1 08:6:18:24:u42\nok 1\n.\n";
+    assert_eq!(instance(6, 0x08, "2A0000000000"), short);
+    assert_eq!(instance(6, 0x08, "2A00000000"), "refused 2 24\n.\n");
+    assert_eq!(instance(3, 0x86, "2A000000"), "refused 10 18\n.\n");
+}
+
+#[test]
+fn single_instance() {
+    let single = |text: &str| answers(&case(b'S', 0, 0, 0, &hex(text)));
+    assert_eq!(single("0F0101000C"), "single none\nends no\n.\n");
+    assert_eq!(single("0F0101000C00"), "single 5\nends no\n.\n");
+    assert_eq!(single("0C"), "single 1\nends no\n.\n");
+    let ends = |at| answers(&case(b'S', 0, at, 0, &hex("0C 00")));
+    assert_eq!(ends(1), "single 1\nends yes\n.\n");
+    assert_eq!(ends(2), "single 1\nends yes\n.\n");
+    assert_eq!(ends(3), "single 1\nends none\n.\n");
+}
+
+/// The chunk of document 01's listing sample.
+fn listing_chunk() -> Vec<u8> {
+    let mut chunk = vec![0; 65536];
+    chunk[..8].copy_from_slice(b"ElfChnk\0");
+    for (at, id) in [(24, 7_u64), (32, 7)] {
+        chunk[at..at + 8].copy_from_slice(&id.to_le_bytes());
+    }
+    chunk[44..48].copy_from_slice(&512_u32.to_le_bytes());
+    chunk[48..52].copy_from_slice(&540_u32.to_le_bytes());
+    for (at, id) in [(512, 7_u64), (600, 3)] {
+        chunk[at..at + 2].copy_from_slice(b"**");
+        chunk[at + 4] = 28;
+        chunk[at + 8..at + 16].copy_from_slice(&id.to_le_bytes());
+        chunk[at + 24] = 28;
+    }
+    chunk
+}
+
+#[test]
+fn listing_sample() {
+    let chunk = listing_chunk();
+    let live = "live 512 28 7 0 536 0\n";
+    let carved = "carved 600 28 3 0 624 0\n";
+    let with = answers(&case(b'W', 1, 0, 0, &chunk));
+    assert_eq!(with, format!("{live}{carved}done\n.\n"));
+    let without = answers(&case(b'W', 0, 0, 0, &chunk));
+    assert_eq!(without, format!("{live}done\n.\n"));
+}
+
+#[test]
+fn listing_sample_step_by_step() {
+    let chunk = listing_chunk();
+    let step = |state: [u64; 5]| {
+        let mut data: Vec<u8> = state.iter().flat_map(|word| word.to_le_bytes()).collect();
+        data.extend(&chunk);
+        answers(&case(b'P', 0, 0, 0, &data))
+    };
+    let start = step([1, 512, 0, 0, 1]);
+    assert_eq!(start, "live 512 28 7 0 536 0\nstate 0 0 540 65536 1\n.\n");
+    let carved = step([0, 0, 540, 65536, 1]);
+    assert_eq!(
+        carved,
+        "carved 600 28 3 0 624 0\nstate 0 0 628 65536 1\n.\n"
+    );
+    let done = step([0, 0, 628, 65536, 1]);
+    assert_eq!(done, "done\nstate 0 0 65536 65536 1\n.\n");
+}
+
+#[test]
+fn record_reads() {
+    let chunk = listing_chunk();
+    let read = |at, strict| answers(&case(b'R', strict, at, 0, &chunk));
+    assert_eq!(read(512, 1), "record 28 7 0 536 0\nresync none\n.\n");
+    assert_eq!(read(511, 0), "refused 4 511\nresync 512\n.\n");
+    assert_eq!(read(65520, 0), "refused 3 65520\nresync none\n.\n");
+
+    let mut late = chunk.clone();
+    let highest = 2_650_466_808_009_999_999_u64;
+    late[528..536].copy_from_slice(&highest.to_le_bytes());
+    let taken = answers(&case(b'R', 0, 512, 0, &late));
+    assert_eq!(
+        taken,
+        format!("record 28 7 {highest} 536 0\nresync none\n.\n")
+    );
+    late[528..536].copy_from_slice(&(highest + 1).to_le_bytes());
+    let refused = answers(&case(b'R', 0, 512, 0, &late));
+    assert_eq!(refused, "refused 6 512\nresync none\n.\n");
+}
+
+#[test]
+fn refused_chunks() {
+    let chunk = listing_chunk();
+    for mode in *b"HW" {
+        assert_eq!(
+            answers(&case(mode, 0, 0, 0, &chunk[1..])),
+            "refused 1 0\n.\n"
+        );
+        let mut other = chunk.clone();
+        other[0] = b'F';
+        assert_eq!(answers(&case(mode, 0, 0, 0, &other)), "refused 4 0\n.\n");
+    }
+    assert_eq!(
+        answers(&case(b'T', 0, 0, 0, &[0; 65537])),
+        "refused 1 0\n.\n"
+    );
+}
+
+#[test]
+fn header_checksum() {
+    let mut chunk = listing_chunk();
+    assert!(answers(&case(b'H', 0, 0, 0, &chunk)).contains("\nchecksum no\n"));
+    // CRC-32 of "123456789", the usual check value.
+    assert_eq!(compare::checksum_ieee(b"123456789"), 0xcbf4_3926);
+    let sum = compare::checksum_ieee(&[&chunk[..120], &chunk[128..512]].concat());
+    chunk[124..128].copy_from_slice(&sum.to_le_bytes());
+    let answer = answers(&case(b'H', 0, 0, 0, &chunk));
+    assert!(answer.starts_with(&format!(
+        "header 0 0 7 7 0 512 540 0 0 {sum}\nchecksum yes\n"
+    )));
+}
+
+#[test]
+fn bad_cases() {
+    assert_eq!(answers(&case(b'X', 0, 0, 0, &[])), "bad case\n");
+    assert_eq!(answers(&case(b'P', 0, 0, 0, &[0; 39])), "bad case\n");
+    assert_eq!(answers(&case(b'T', 0, 0, 0, &[0; 131_073])), "bad case\n");
+    assert_eq!(answers(&case(b'S', 0, 0, 0, &[0; 2])[..15]), "bad case\n");
+    assert_eq!(answers(&case(b'S', 0, 0, 0, &[])[..13]), "bad case\n");
+    assert_eq!(answers(&[]), "");
+}

@@ -1,0 +1,34 @@
+-- `crc32::join` meets its contract: four bytes share no bit, so their sum is their xor (`little-four`).
+-- Assumes nothing.
+use borrow.Author.Needs.{needs}
+use Rattle.crc32.proofs.Lists.{little-four}
+use Rattle.crc32.proofs.join.Statement.{statement}
+use Rattle.crc32.proofs.join.Tie as tie
+
+mul-result : tie.Need-mul-result
+mul-result c = search needs
+
+add-result : tie.Need-add-result
+add-result c = search needs
+
+mul-result-2 : tie.Need-mul-result-2
+mul-result-2 c = search needs
+
+add-result-2 : tie.Need-add-result-2
+add-result-2 c = search needs
+
+mul-result-3 : tie.Need-mul-result-3
+mul-result-3 c = search needs
+
+add-result-3 : tie.Need-add-result-3
+add-result-3 c = search needs
+
+returns : tie.Need-returns
+returns c =
+    let a = c .args in
+    little-four (a .a) (a .b) (a .c) (a .d) (search needs) (search needs) (search needs) (search needs)
+
+pub join-spec : {M : Type 1} → statement M
+join-spec =
+    tie.close
+    (tie.spec mul-result add-result mul-result-2 add-result-2 mul-result-3 add-result-3 returns)

@@ -1,0 +1,3 @@
+-- What the contracts cite: `Crc` those of the public functions, `Helpers` those of the private ones.
+pub mod Crc
+pub mod Helpers

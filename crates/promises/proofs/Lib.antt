@@ -1,0 +1,5 @@
+-- What the contracts say when read together.
+pub mod One
+pub mod OfCursor
+pub mod OfCrc32
+pub mod OfName

@@ -1,0 +1,17 @@
+-- Any two answers that a contract allows are equal: what the theorems of the other files say, and the laws that they share.
+-- Assumes nothing.
+use mathlib.Core.Path.{_≡_, sym, ap, _∙_}
+use Prim.Native.Nat.{ℕ}
+use mathlib.Core.List.{List}
+use contract.Lifetimes.{Lfts}
+use borrow.Fn.Kinds.{PK, RK, Out, Dens, resT, endedOf}
+use denote.Triple.Clauses.{AtExit}
+
+-- a contract allows one answer: n is the number of lifetimes in the signature
+abbrev pub Single : (n : ℕ) (ps : List (PK n)) (r : RK n) → Out n ps r → Type 0
+Single n ps r post =
+    (κs : Lfts n) (a : Dens κs ps) (x y : resT r κs .Denot) (s t : AtExit (endedOf n ps r) κs) → post κs a x s → post κs a y t → x ≡ y
+
+-- a contract that says what the answer is in document 01's terms fixes the answer, where those terms can be read back
+pub read-back : {A B : Type 0} (f : A → B) (g : B → A) → ((x : A) → g (f x) ≡ x) → (x y : A) (b : B) → f x ≡ b → f y ≡ b → x ≡ y
+read-back f g h x y b p q = sym (h x) ∙ ap g (p ∙ sym q) ∙ h y
