@@ -2,8 +2,8 @@
 //! the same lines.
 //!
 //! Left out, since the printed cursor cannot stand there: reads at a position past the end. Left
-//! out, since the printed Rust has no such call: where a name's units stand, the hash alone, and
-//! an array of more than 65,535 bytes.
+//! out, since the printed Rust has no such call: numbers without a refusal, where a name's units
+//! stand, the hash alone, and an array of more than 65,535 bytes.
 
 use compare::oracle::leaves::{self, Answer, View};
 
@@ -110,9 +110,21 @@ fn texts() {
 
 fn cut(s: &[u8]) {
     for at in 0..=s.len() {
-        line("zero_ended", s.len(), at, 0, view(s, leaves::zero_ended(s, at)));
+        line(
+            "zero_ended",
+            s.len(),
+            at,
+            0,
+            view(s, leaves::zero_ended(s, at)),
+        );
         for n in [0, 1, 2, 4, LARGEST / 2, LARGEST / 2 + 1, LARGEST] {
-            line("counted", s.len(), at, n, view(s, leaves::counted(s, at, n)));
+            line(
+                "counted",
+                s.len(),
+                at,
+                n,
+                view(s, leaves::counted(s, at, n)),
+            );
         }
     }
 }

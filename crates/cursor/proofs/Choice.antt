@@ -5,7 +5,7 @@ use mathlib.Core.List.{List}
 use Prim.Native.Nat.{ℕ, _+_, _-_, _≤_, _<_}
 use native.Mathlib.Omega.{arith}
 use native.Mathlib.Decide.{decLe}
-use borrow.Author.Tests.{le-leb, lt-leb, leb-true}
+use borrow.Author.Tests.{le-leb, lt-leb, leb-true, leb-false}
 use lib.Dec.{leb}
 use lib.ListN.{length}
 use Rattle.cursor.specs.Answer.{Answer, given, pick}
@@ -37,6 +37,9 @@ stands s at n h = same-leb at (length s - n) (at + n) (length s) (λ k. omega ar
 module _ (s : List ℕ) (at n : ℕ) (b : Bool) (e : b ≡ within s at n) where
   pub there : b ≡ true → at + n ≤ length s
   there t = leb-true (at + n) (length s) (sym e ∙ t)
+
+  pub missing : b ≡ false → length s < at + n
+  missing t = leb-false (at + n) (length s) (sym e ∙ t)
 
   pub read : {A : Type 0} (x a : A) → x ≡ a → b ≡ true → given x (at + n) ≡ readOf s at n a
   read x a p t = simp (sym e ∙ t, p)

@@ -1,4 +1,5 @@
 -- Laws that the proofs here and in the crates above cite.
 pub mod Choice
 pub mod Numbers
+pub mod Magic
 pub mod Units

@@ -1,5 +1,5 @@
 -- Reads at a position: bytes, numbers, a SID, an array. Document 01, "Refusals and their places" and "Values"; the Rust, byte_cursor.rs.
-use mathlib.Core.Bool.{Bool}
+use mathlib.Core.Bool.{Bool, true, false, _&&_}
 use mathlib.Core.List.{List, [], _∷_}
 use Prim.Native.Nat.{ℕ, _+_, _*_, _%_}
 use lib.Dec.{leb, eqb}
@@ -34,9 +34,19 @@ unfoldable pub little : List ℕ → ℕ
 little [] = 0
 little (b ∷ s) = b + 256 * little s
 
--- a number of w bytes
+-- the number of the w bytes at a position; bytes past the end count as zeros
+abbrev pub numberOf : List ℕ → ℕ → ℕ → ℕ
+numberOf s at w = little (bytesOf s at w)
+
+-- a read of a number of w bytes
 abbrev pub numberAt : List ℕ → ℕ → ℕ → Answer ℕ
-numberAt s at w = readOf s at w (little (bytesOf s at w))
+numberAt s at w = readOf s at w (numberOf s at w)
+
+-- the bytes of a magic stand at the beginning
+unfoldable pub startsWith : List ℕ → List ℕ → Bool
+startsWith t [] = true
+startsWith [] (b ∷ m) = false
+startsWith (a ∷ t) (b ∷ m) = eqb a b && startsWith t m
 
 -- n bytes, as a part of the slice
 abbrev pub takeAt : List ℕ → ℕ → ℕ → Answer Part

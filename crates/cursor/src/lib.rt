@@ -7,7 +7,7 @@ mod raw;
 ghost use mathlib.Core.Path.{_≡_};
 ghost use lib.ListN.{getD};
 ghost use Rattle.cursor.specs.Answers.{u8Answer, u16Answer, u32Answer, u64Answer, movedAnswer, takenAnswer, textAnswer};
-ghost use Rattle.cursor.specs.Reads.{setTo, numberAt, takeAt, partOf, sidAt, arrayAt};
+ghost use Rattle.cursor.specs.Reads.{setTo, numberOf, startsWith, numberAt, takeAt, partOf, sidAt, arrayAt};
 ghost use Rattle.cursor.specs.Text.{unitsOf, countedAt, prefixedAt, zeroEndedAt};
 
 // Why a call refuses: document 01's number and place. One struct for all crates.
@@ -101,6 +101,70 @@ pub enum Taken {
 pub enum Text {
     Units(View, Cursor),
     Refused(Refusal),
+}
+
+// The number of `w` bytes at a position, w being 1, 2, 4 or 8. Bytes past the end count as zeros, so that a caller who knows that
+// they are there has no refusal to answer.
+pub fn u8_at(s: &[u8], at: usize) -> u8
+    ensures { λ r. ⌜ r ≡ numberOf (now (s .entry)) at 1 ⌝ }
+{
+    if raw::stands(s, at, 1) {
+        return raw::one(s, at);
+    }
+    0
+}
+
+pub fn u16_at(s: &[u8], at: usize) -> u16
+    ensures { λ r. ⌜ r ≡ numberOf (now (s .entry)) at 2 ⌝ }
+{
+    if raw::stands(s, at, 2) {
+        return raw::two(s, at);
+    }
+    if s.len() <= at {
+        return 0;
+    }
+    raw::join8(u8_at(s, at), u8_at(s, at + 1))
+}
+
+pub fn u32_at(s: &[u8], at: usize) -> u32
+    ensures { λ r. ⌜ r ≡ numberOf (now (s .entry)) at 4 ⌝ }
+{
+    if raw::stands(s, at, 4) {
+        return raw::four(s, at);
+    }
+    if s.len() <= at {
+        return 0;
+    }
+    raw::join16(u16_at(s, at), u16_at(s, at + 2))
+}
+
+pub fn u64_at(s: &[u8], at: usize) -> u64
+    ensures { λ r. ⌜ r ≡ numberOf (now (s .entry)) at 8 ⌝ }
+{
+    if raw::stands(s, at, 8) {
+        return raw::eight(s, at);
+    }
+    if s.len() <= at {
+        return 0;
+    }
+    raw::join32(u32_at(s, at), u32_at(s, at + 4))
+}
+
+// Whether the bytes of `magic` stand at the beginning of t.
+pub fn begins(t: &[u8], magic: &[u8]) -> bool
+    ensures { λ r. ⌜ r ≡ startsWith (now (t .entry)) (now (magic .entry)) ⌝ }
+{
+    if t.len() < magic.len() {
+        return false;
+    }
+    let mut i: usize = 0;
+    while i < magic.len() {
+        if t[i] != magic[i] {
+            return false;
+        }
+        i += 1;
+    }
+    true
 }
 
 // The unit n of a run of units, or 0 past its end.

@@ -61,19 +61,19 @@ pub fn eight(s: &[u8], at: usize) -> u64
     join32(four(s, at), four(s, at + 4))
 }
 
-fn join8(low: u8, high: u8) -> u16
+pub fn join8(low: u8, high: u8) -> u16
     ensures { λ r. ⌜ r ≡ low + 256 * high ⌝ }
 {
     low as u16 + 256 * (high as u16)
 }
 
-fn join16(low: u16, high: u16) -> u32
+pub fn join16(low: u16, high: u16) -> u32
     ensures { λ r. ⌜ r ≡ low + 65536 * high ⌝ }
 {
     low as u32 + 65536 * (high as u32)
 }
 
-fn join32(low: u32, high: u32) -> u64
+pub fn join32(low: u32, high: u32) -> u64
     ensures { λ r. ⌜ r ≡ low + 4294967296 * high ⌝ }
 {
     low as u64 + 4294967296 * (high as u64)

@@ -47,6 +47,16 @@ use Rattle.cursor.proofs.Cursor.len_prefixed_utf16_string.Kinds as len_prefixed
 use Rattle.cursor.proofs.Cursor.len_prefixed_utf16_string.Reads as len_prefixed_utf16_stringR
 use Rattle.cursor.proofs.Cursor.null_terminated_utf16_string.Kinds as null_terminated_utf16_stringK
 use Rattle.cursor.proofs.Cursor.null_terminated_utf16_string.Reads as null_terminated_utf16_stringR
+use Rattle.cursor.proofs.u8_at.Kinds as u8_atK
+use Rattle.cursor.proofs.u8_at.Reads as u8_atR
+use Rattle.cursor.proofs.u16_at.Kinds as u16_atK
+use Rattle.cursor.proofs.u16_at.Reads as u16_atR
+use Rattle.cursor.proofs.u32_at.Kinds as u32_atK
+use Rattle.cursor.proofs.u32_at.Reads as u32_atR
+use Rattle.cursor.proofs.u64_at.Kinds as u64_atK
+use Rattle.cursor.proofs.u64_at.Reads as u64_atR
+use Rattle.cursor.proofs.begins.Kinds as beginsK
+use Rattle.cursor.proofs.begins.Reads as beginsR
 use Rattle.cursor.proofs.unit_at.Kinds as unit_atK
 use Rattle.cursor.proofs.unit_at.Reads as unit_atR
 use Rattle.cursor.proofs.Part.of.Kinds as ofK
@@ -165,6 +175,21 @@ len-prefixed-utf16-string κs a x y s t p q = text-one x y _ p q
 
 pub null-terminated-utf16-string : Single 1 null_terminated_utf16_stringK.ps null_terminated_utf16_stringK.r null_terminated_utf16_stringR.Post
 null-terminated-utf16-string κs a x y s t p q = text-one x y _ p q
+
+pub u8-at : Single 1 u8_atK.ps u8_atK.r u8_atR.Post
+u8-at κs a x y s t p q = p ∙ sym q
+
+pub u16-at : Single 1 u16_atK.ps u16_atK.r u16_atR.Post
+u16-at κs a x y s t p q = p ∙ sym q
+
+pub u32-at : Single 1 u32_atK.ps u32_atK.r u32_atR.Post
+u32-at κs a x y s t p q = p ∙ sym q
+
+pub u64-at : Single 1 u64_atK.ps u64_atK.r u64_atR.Post
+u64-at κs a x y s t p q = p ∙ sym q
+
+pub begins : Single 2 beginsK.ps beginsK.r beginsR.Post
+begins κs a x y s t p q = p ∙ sym q
 
 pub unit-at : Single 1 unit_atK.ps unit_atK.r unit_atR.Post
 unit-at κs a x y s t p q = p ∙ sym q

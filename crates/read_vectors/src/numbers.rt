@@ -32,6 +32,12 @@ fn at_position(s: &[u8], at: usize) {
     read16(s, at);
     read32(s, at);
     read64(s, at);
+    say::call(b"numbers", s.len(), at, 0);
+    say::number(cursor::u8_at(s, at) as usize);
+    say::number(cursor::u16_at(s, at) as usize);
+    say::number(cursor::u32_at(s, at) as usize);
+    say::number(cursor::u64_at(s, at) as usize);
+    say::end();
     say::call(b"with_pos", s.len(), at, 0);
     moved(Cursor::with_pos(s, at));
     let c = Cursor { at: 0 };

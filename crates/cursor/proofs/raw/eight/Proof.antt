@@ -20,7 +20,7 @@ join32-requires c κs = search needs
 returns : tie.Need-returns
 returns c =
     let a = c .before .before .before .before .args in
-    omega (arith, c .join32 .ensures, number-add (a .s .now) (a .at) 4 4 (search needs))
+    omega (arith, c .join32 .ensures, number-add (a .s .now) (a .at) 4 4)
 
 pub eight-spec : {M : Type 1} → statement M
 eight-spec = tie.close (tie.spec four-requires add-four four-requires-2 join32-requires returns)

@@ -20,7 +20,7 @@ join16-requires c κs = search needs
 returns : tie.Need-returns
 returns c =
     let a = c .before .before .before .before .args in
-    omega (arith, c .join16 .ensures, number-add (a .s .now) (a .at) 2 2 (search needs))
+    omega (arith, c .join16 .ensures, number-add (a .s .now) (a .at) 2 2)
 
 pub four-spec : {M : Type 1} → statement M
 four-spec = tie.close (tie.spec two-requires add-two two-requires-2 join16-requires returns)

@@ -20,7 +20,7 @@ join8-requires c κs = search needs
 returns : tie.Need-returns
 returns c =
     let a = c .before .before .before .before .args in
-    omega (arith, c .join8 .ensures, number-add (a .s .now) (a .at) 1 1 (search needs))
+    omega (arith, c .join8 .ensures, number-add (a .s .now) (a .at) 1 1)
 
 pub two-spec : {M : Type 1} → statement M
 two-spec = tie.close (tie.spec one-requires add-one one-requires-2 join8-requires returns)
