@@ -3,3 +3,6 @@ pub mod One
 pub mod OfCursor
 pub mod OfCrc32
 pub mod OfName
+pub mod OfRecord
+pub mod OfChunk
+pub mod Resume

@@ -1,0 +1,68 @@
+-- `chunk`: each public call allows one answer, and the listing one content of the lent rows. Where a contract says "the least", one is all
+-- that "the least" allows. Assumes nothing.
+use mathlib.Core.Path.{_≡_, refl, sym, ap, subst, _∙_}
+use mathlib.Core.Bool.{Bool, true, false}
+use mathlib.Core.List.{List}
+use Prim.Native.Nat.{ℕ, _+_}
+use contract.Lifetimes.{Lfts}
+use borrow.Fn.Kinds.{Dens, resT, endedOf}
+use denote.Triple.Clauses.{AtExit}
+use lib.Dec.{leb}
+use lib.ListN.{length}
+use Rattle.cursor.specs.Answer.{Answer, given, refused}
+use Rattle.record.specs.Chunk.{fieldsAt}
+use Rattle.record.specs.declared.Fields.{Fields}
+use Rattle.chunk.specs.Allowed.{resyncable}
+use Rattle.chunk.specs.Walk.{Choose, resyncOn, ResyncAfter}
+use Rattle.chunk.specs.Listing.{Runs, Counted, listsOn, Lists, rowsOf, laid}
+use Rattle.chunk.specs.declared.Walk.{Walk}
+use Rattle.chunk.specs.declared.Item.{Item}
+use Rattle.chunk.specs.declared.Resync.{Resync}
+use Rattle.chunk.specs.declared.Resync.the-variants as R
+use Rattle.chunk.specs.declared.Listed.{Listed}
+use Rattle.chunk.proofs.Leasts.{one}
+use Rattle.chunk.proofs.OneStep.{step-one}
+use Rattle.chunk.proofs.Counting.{runs-one}
+use Rattle.chunk.proofs.Walk.start.Kinds as startK
+use Rattle.chunk.proofs.Walk.start.Reads as startR
+use Rattle.chunk.proofs.Walk.step.Kinds as stepK
+use Rattle.chunk.proofs.Walk.step.Reads as stepR
+use Rattle.chunk.proofs.resync_after.Kinds as resyncK
+use Rattle.chunk.proofs.resync_after.Reads as resyncR
+use Rattle.chunk.proofs.list.Kinds as listK
+use Rattle.chunk.proofs.list.Reads as listR
+use Rattle.promises.proofs.One.{Single}
+
+pub start : Single 0 startK.ps startK.r startR.Post
+start κs a x y s t p q = p ∙ sym q
+
+pub step : Single 1 stepK.ps stepK.r stepR.Post
+step κs a x y s t p q = step-one _ _ x y p q
+
+resync-by : (s : List ℕ) (p : ℕ) (x y : Resync) (f : Answer Fields) → resyncOn s p x f → resyncOn s p y f → x ≡ y
+resync-by s p (R.Answered a) (R.Answered b) (given h n) u v = ap R.Answered (one (resyncable s h) (p + 1) a b u v)
+resync-by s p (R.Answered a) y (refused k c) u v = absurd u
+resync-by s p (R.Answered a) (R.Refused b) (given h n) u v = absurd v
+resync-by s p (R.Refused a) y (given h n) u v = absurd u
+resync-by s p (R.Refused a) (R.Answered b) (refused k c) u v = absurd v
+resync-by s p (R.Refused a) (R.Refused b) (refused k c) u v = ap R.Refused (u ∙ sym v)
+
+pub resync-after : Single 1 resyncK.ps resyncK.r resyncR.Post
+resync-after κs a x y s t p q = resync-by _ _ x y (fieldsAt _) p q
+
+-- of two claims that a test chooses from, each fixes the answer and the rows
+chosen-one : (b : Bool) (c r x y : Listed) (w v m n : List ℕ)
+    → Choose b ((x ≡ c) × (m ≡ w)) ((x ≡ r) × (m ≡ v)) → Choose b ((y ≡ c) × (n ≡ w)) ((y ≡ r) × (n ≡ v)) → (x ≡ y) × (m ≡ n)
+chosen-one true c r x y w v m n (p, q) (e, f) = (p ∙ sym e, q ∙ sym f)
+chosen-one false c r x y w v m n (p, q) (e, f) = (p ∙ sym e, q ∙ sym f)
+
+lists-by : (s : List ℕ) (w : Walk) (lent m n : List ℕ) (x y : Listed) (f : Answer Fields) → listsOn s w lent m x f → listsOn s w lent n y f → (x ≡ y) × (m ≡ n)
+lists-by s w lent m n x y (given h k) (items, (r, c)) (others, (q, d)) =
+    let e = runs-one s w others items q r in
+    chosen-one (leb (length (rowsOf items)) (length lent)) _ _ x y _ _ m n c (subst (λ (l : List Item). Counted l lent n y) e d)
+lists-by s w lent m n x y (refused k p) (a, b) (c, d) = (a ∙ sym c, b ∙ sym d)
+
+-- answer and lent rows
+pub list : (κs : Lfts 2) (a : Dens κs listK.ps) (x y : resT listK.r κs .Denot) (s t : AtExit (endedOf 2 listK.ps listK.r) κs)
+    → listR.Post κs a x s → listR.Post κs a y t → (x ≡ y) × (s .1 .1 .0 .now ≡ t .1 .1 .0 .now)
+list κs a x y s t p q = lists-by _ _ _ _ _ x y (fieldsAt _) p q

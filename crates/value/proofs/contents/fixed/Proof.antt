@@ -1,0 +1,20 @@
+-- `fixed` meets its contract: bytes, or a number. Assumes nothing.
+use borrow.Author.Tests.{eq-eqb, ne-eqb}
+use borrow.Author.Needs.{needs}
+use Rattle.value.proofs.contents.fixed.Statement.{statement}
+use Rattle.value.proofs.contents.fixed.Tie as tie
+
+bytes-requires : tie.Need-bytes-requires
+bytes-requires c κs = search needs
+
+number-requires : tie.Need-number-requires
+number-requires c κs = search needs
+
+returns : tie.Need-returns
+returns c = simp (eq-eqb _ _ (c .before .if1 .taken), c .bytes .ensures)
+
+returns-2 : tie.Need-returns-2
+returns-2 c = simp (ne-eqb _ _ (c .before .if1 .left), c .number .ensures)
+
+pub fixed-spec : {M : Type 1} → statement M
+fixed-spec = tie.close (tie.spec bytes-requires number-requires returns returns-2)

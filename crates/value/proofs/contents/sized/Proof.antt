@@ -1,0 +1,47 @@
+-- `sized` meets its contract: what tells its length, a string, a SIZE_T, or the rest. Assumes nothing.
+use borrow.Author.Tests.{eq-eqb, ne-eqb}
+use mathlib.Core.Path.{sym, _∙_}
+use borrow.Author.Needs.{needs}
+use Rattle.value.proofs.contents.sized.Statement.{statement}
+use Rattle.value.proofs.contents.sized.Tie as tie
+
+tells-requires : tie.Need-tells-requires
+tells-requires c κs = search needs
+
+told-requires : tie.Need-told-requires
+told-requires c κs = search needs
+
+returns : tie.Need-returns
+returns c = simp (sym (c .before .before .tells .ensures) ∙ c .before .if1 .taken, c .told .ensures)
+
+text-requires : tie.Need-text-requires
+text-requires c κs = search needs
+
+returns-2 : tie.Need-returns-2
+returns-2 c = simp (sym (c .before .before .before .tells .ensures) ∙ c .before .before .if1 .left, eq-eqb _ _ (c .before .if2 .taken), c .text .ensures)
+
+size-t-requires : tie.Need-size-t-requires
+size-t-requires c κs = search needs
+
+returns-3 : tie.Need-returns-3
+returns-3 c = simp (sym (c .before .before .before .before .tells .ensures) ∙ c .before .before .before .if1 .left, ne-eqb _ _ (c .before .before .if2 .left), eq-eqb _ _ (c .before .if3 .taken), c .size-t .ensures)
+
+sized-bytes-requires : tie.Need-sized-bytes-requires
+sized-bytes-requires c κs = search needs
+
+returns-4 : tie.Need-returns-4
+returns-4 c = simp (sym (c .before .before .before .before .tells .ensures) ∙ c .before .before .before .if1 .left, ne-eqb _ _ (c .before .before .if2 .left), ne-eqb _ _ (c .before .if3 .left), c .sized-bytes .ensures)
+
+pub sized-spec : {M : Type 1} → statement M
+sized-spec =
+    tie.close
+    (tie.spec
+    tells-requires
+    told-requires
+    returns
+    text-requires
+    returns-2
+    size-t-requires
+    returns-3
+    sized-bytes-requires
+    returns-4)

@@ -1,0 +1,4 @@
+-- The definitions that the contracts of `value` cite.
+pub mod Kinds
+pub mod Value
+pub mod Scalar
