@@ -77,7 +77,7 @@ read-header κs a x y s t p q =
     record {
       fields = fields-one (x .fields) (y .fields) _ (p .0) (q .0) i;
       strings = (p .1 .0 ∙ sym (q .1 .0)) i;
-      templates = (p .1 .1 ∙ sym (q .1 .1)) i
+      templates = (p .1 .1 ∙ sym (q .1 .1)) i;
     }
 
 pub check-header : Single 1 checkK.ps checkK.r checkR.Post
