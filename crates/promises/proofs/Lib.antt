@@ -3,6 +3,7 @@ pub mod One
 pub mod OfCursor
 pub mod OfCrc32
 pub mod OfName
+pub mod OfValue
 pub mod OfRecord
 pub mod OfChunk
 pub mod Resume
