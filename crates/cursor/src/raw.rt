@@ -14,7 +14,7 @@ ghost use Rattle.cursor.specs.Reads.{within, little, bytesOf, tooFewByte
 ghost use Rattle.cursor.specs.Text.{unitsOf, beforeZero, viewOf, unitAfter, endedAt};
 
 // Refusal 3, where the read starts.
-pub fn too_few_bytes(at: usize) -> Refusal
+pub(crate) fn too_few_bytes(at: usize) -> Refusal
     ensures { λ r. ⌜ r ≡ tooFewBytes at ⌝ }
 {
     Refusal {
@@ -24,7 +24,7 @@ pub fn too_few_bytes(at: usize) -> Refusal
 }
 
 // Whether n bytes stand in s from `at` on. The sum of the two is not made: it might not fit a number.
-pub fn stands(s: &[u8], at: usize, n: usize) -> bool
+pub(crate) fn stands(s: &[u8], at: usize, n: usize) -> bool
     ensures { λ r. ⌜ r ≡ within (now (s .entry)) at n ⌝ }
 {
     if s.len() < n {
@@ -33,54 +33,54 @@ pub fn stands(s: &[u8], at: usize, n: usize) -> bool
     at <= s.len() - n
 }
 
-pub fn one(s: &[u8], at: usize) -> u8
+pub(crate) fn one(s: &[u8], at: usize) -> u8
     requires { ⌜ at + 1 ≤ length (now s) ⌝ }
     ensures { λ r. ⌜ r ≡ little (bytesOf (now (s .entry)) at 1) ⌝ }
 {
     s[at]
 }
 
-pub fn two(s: &[u8], at: usize) -> u16
+pub(crate) fn two(s: &[u8], at: usize) -> u16
     requires { ⌜ at + 2 ≤ length (now s) ⌝ }
     ensures { λ r. ⌜ r ≡ little (bytesOf (now (s .entry)) at 2) ⌝ }
 {
     join8(one(s, at), one(s, at + 1))
 }
 
-pub fn four(s: &[u8], at: usize) -> u32
+pub(crate) fn four(s: &[u8], at: usize) -> u32
     requires { ⌜ at + 4 ≤ length (now s) ⌝ }
     ensures { λ r. ⌜ r ≡ little (bytesOf (now (s .entry)) at 4) ⌝ }
 {
     join16(two(s, at), two(s, at + 2))
 }
 
-pub fn eight(s: &[u8], at: usize) -> u64
+pub(crate) fn eight(s: &[u8], at: usize) -> u64
     requires { ⌜ at + 8 ≤ length (now s) ⌝ }
     ensures { λ r. ⌜ r ≡ little (bytesOf (now (s .entry)) at 8) ⌝ }
 {
     join32(four(s, at), four(s, at + 4))
 }
 
-pub fn join8(low: u8, high: u8) -> u16
+pub(crate) fn join8(low: u8, high: u8) -> u16
     ensures { λ r. ⌜ r ≡ low + 256 * high ⌝ }
 {
     low as u16 + 256 * (high as u16)
 }
 
-pub fn join16(low: u16, high: u16) -> u32
+pub(crate) fn join16(low: u16, high: u16) -> u32
     ensures { λ r. ⌜ r ≡ low + 65536 * high ⌝ }
 {
     low as u32 + 65536 * (high as u32)
 }
 
-pub fn join32(low: u32, high: u32) -> u64
+pub(crate) fn join32(low: u32, high: u32) -> u64
     ensures { λ r. ⌜ r ≡ low + 4294967296 * high ⌝ }
 {
     low as u64 + 4294967296 * (high as u64)
 }
 
 // How many units of t stand before the first zero unit.
-pub fn before_zero(t: &[u8]) -> usize
+pub(crate) fn before_zero(t: &[u8]) -> usize
     ensures { λ r. ⌜ r ≡ beforeZero (unitsOf (now (t .entry))) ⌝ }
 {
     let mut n: usize = 0;
@@ -94,7 +94,7 @@ pub fn before_zero(t: &[u8]) -> usize
 }
 
 // The view of a text of `bytes` bytes at `at`.
-pub fn view(s: &[u8], at: usize, bytes: usize) -> View
+pub(crate) fn view(s: &[u8], at: usize, bytes: usize) -> View
     requires { ⌜ at + bytes ≤ length (now s) ⌝ }
     ensures { λ r. ⌜ r ≡ viewOf (now (s .entry)) at bytes ⌝ }
 {
@@ -108,7 +108,7 @@ pub fn view(s: &[u8], at: usize, bytes: usize) -> View
 }
 
 // The text with one unit more read after it.
-pub fn ended(text: Text, s: &[u8]) -> Text
+pub(crate) fn ended(text: Text, s: &[u8]) -> Text
     ensures { λ r. ⌜ textAnswer r ≡ endedAt (now (s .entry)) (textAnswer text) ⌝ }
 {
     match text {

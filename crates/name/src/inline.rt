@@ -12,7 +12,7 @@ ghost use Rattle.cursor.specs.Reads.{bytesOf};
 ghost use Rattle.cursor.specs.Text.{unitsOf};
 ghost use Rattle.name.specs.Name.{nameAnswer, inlineNameAt, afterHash, afterCount, afterUnits, judged};
 
-pub fn read_inline_name(c: Cursor, s: &[u8]) -> NameRead
+pub(crate) fn read_inline_name(c: Cursor, s: &[u8]) -> NameRead
     ensures { λ r. ⌜ nameAnswer r ≡ inlineNameAt (now (s .entry)) (c .at) ⌝ }
 {
     match c.u16(s) {

@@ -9,7 +9,7 @@ ghost use mathlib.Core.Path.{_≡_};
 ghost use Rattle.cursor.specs.Answers.{movedAnswer};
 ghost use Rattle.name.specs.Name.{nameAnswer, offsetNameAt, afterOffset, linkAt, afterNext, inPlaceAt, afterLink, skipped};
 
-pub fn read_offset_name_ref(c: Cursor, s: &[u8]) -> NameRead
+pub(crate) fn read_offset_name_ref(c: Cursor, s: &[u8]) -> NameRead
     ensures { λ r. ⌜ nameAnswer r ≡ offsetNameAt (now (s .entry)) (c .at) ⌝ }
 {
     match c.u32(s) {

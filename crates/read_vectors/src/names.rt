@@ -3,7 +3,7 @@ use crate::say;
 use cursor::Cursor;
 use name::NameRead;
 
-pub fn run() {
+pub(crate) fn run() {
     // offset names: elsewhere; in place with 0, 1 and 2 units, whole and cut; in place with the count at its largest
     offsets(b"\x00\x02\x00\x00\xFF");
     offsets(b"\x04\x00\x00\x00\x01\x02\x03\x04\x05\x06\x00\x00\x00\x00");

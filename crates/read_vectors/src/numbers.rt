@@ -8,7 +8,7 @@ use cursor::ReadU16;
 use cursor::ReadU32;
 use cursor::ReadU64;
 
-pub fn run() {
+pub(crate) fn run() {
     lengths(b"\x11\x22\x33\x44\x55\x66\x77\x88\x99");
 }
 

@@ -2,7 +2,7 @@
 use crate::say;
 use cursor::Cursor;
 
-pub fn run() {
+pub(crate) fn run() {
     places(b"\x01\x02\x03\x04");
     sids();
     sizes(b"\x01\x02\x03\x04\x05\x06\x07\x08\x09\x0A\x0B\x0C\x0D\x0E\x0F\x10\x11");

@@ -6,13 +6,13 @@ use cursor::Text;
 use libc::STDOUT_FILENO;
 
 // The first n bytes of a slice, or none where it has fewer.
-pub fn front(whole: &[u8], n: usize) -> &[u8] {
+pub(crate) fn front(whole: &[u8], n: usize) -> &[u8] {
     let p = Part { start: 0, len: n };
     p.of(whole)
 }
 
 // The call and what it was given: the slice's length, the position, and one number more.
-pub fn call(name: &[u8], len: usize, at: usize, more: usize) {
+pub(crate) fn call(name: &[u8], len: usize, at: usize, more: usize) {
     io::write_all(STDOUT_FILENO, name);
     number(len);
     number(at);
@@ -20,24 +20,24 @@ pub fn call(name: &[u8], len: usize, at: usize, more: usize) {
     io::write_all(STDOUT_FILENO, b":");
 }
 
-pub fn number(n: usize) {
+pub(crate) fn number(n: usize) {
     io::write_all(STDOUT_FILENO, b" ");
     io::print_decimal(STDOUT_FILENO, n as u64);
 }
 
-pub fn end() {
+pub(crate) fn end() {
     io::write_all(STDOUT_FILENO, b"\n");
 }
 
 // What was read, and the next position.
-pub fn value(v: u64, next: usize) {
+pub(crate) fn value(v: u64, next: usize) {
     io::write_all(STDOUT_FILENO, b" ");
     io::print_decimal(STDOUT_FILENO, v);
     number(next);
     end();
 }
 
-pub fn refused(r: Refusal) {
+pub(crate) fn refused(r: Refusal) {
     io::write_all(STDOUT_FILENO, b" refused ");
     io::print_decimal(STDOUT_FILENO, r.number as u64);
     number(r.place);
@@ -61,7 +61,7 @@ fn wide(b: u8) -> usize {
     b as usize
 }
 
-pub fn taken(t: Taken, s: &[u8]) {
+pub(crate) fn taken(t: Taken, s: &[u8]) {
     match t {
         Taken::Bytes(p, next) => {
             bytes(p.of(s));
@@ -72,7 +72,7 @@ pub fn taken(t: Taken, s: &[u8]) {
     }
 }
 
-pub fn text(t: Text, s: &[u8]) {
+pub(crate) fn text(t: Text, s: &[u8]) {
     match t {
         Text::Units(v, next) => {
             let p = v.part;

@@ -2,7 +2,7 @@
 use crate::say;
 use cursor::Cursor;
 
-pub fn run() {
+pub(crate) fn run() {
     // "AB", a zero unit, "C" and an odd byte, cut to each length
     lengths(b"A\0B\0\0\0C\0\x03");
     // a unit of which one byte is zero is no zero unit

@@ -20,7 +20,7 @@ pub enum ContentRead {
 }
 
 // Whether a type tells how many bytes it reads, whatever a size says.
-pub fn tells(code: u8) -> bool
+pub(crate) fn tells(code: u8) -> bool
     ensures { λ r. ⌜ r ≡ tellsLength code ⌝ }
 {
     if 0 < Kind::width(code) {
@@ -33,7 +33,7 @@ pub fn tells(code: u8) -> bool
 }
 
 // What such a type reads.
-pub fn told(rest: &[u8], start: usize, code: u8) -> ContentRead
+pub(crate) fn told(rest: &[u8], start: usize, code: u8) -> ContentRead
     requires { ⌜ start + length (now rest) < 2 ^ 64 ⌝ }
     ensures { λ r. ⌜ contentAnswer r ≡ toldIn (now (rest .entry)) start code ⌝ }
 {
@@ -48,7 +48,7 @@ pub fn told(rest: &[u8], start: usize, code: u8) -> ContentRead
 }
 
 // What a type reads with a size.
-pub fn sized(rest: &[u8], start: usize, code: u8, size: usize) -> ContentRead
+pub(crate) fn sized(rest: &[u8], start: usize, code: u8, size: usize) -> ContentRead
     requires { ⌜ start + length (now rest) < 2 ^ 64 ⌝ }
     ensures { λ r. ⌜ contentAnswer r ≡ sizedIn (now (rest .entry)) start code size ⌝ }
 {
@@ -65,7 +65,7 @@ pub fn sized(rest: &[u8], start: usize, code: u8, size: usize) -> ContentRead
 }
 
 // The refusal of a type that is not read: 8 if it is known, else 7.
-pub fn not_read(code: u8) -> u8
+pub(crate) fn not_read(code: u8) -> u8
     ensures { λ r. ⌜ r ≡ notRead code ⌝ }
 {
     if Kind::known(code) {

@@ -18,7 +18,7 @@ fn decoded(bits: u64, value: Scalar) -> Decoding
 }
 
 // `last` is the last number of the width.
-pub fn signed(bits: u64, last: u64) -> Decoding
+pub(crate) fn signed(bits: u64, last: u64) -> Decoding
     requires { ⌜ bits ≤ last ⌝ }
     ensures { λ r. ⌜ r ≡ decoded bits (Scalar.Signed (signedOf last bits)) ⌝ }
 {
@@ -36,7 +36,7 @@ fn signed_of(bits: u64, last: u64) -> i64
     }
 }
 
-pub fn unsigned(code: u8, bytes: &[u8]) -> Decoding
+pub(crate) fn unsigned(code: u8, bytes: &[u8]) -> Decoding
     ensures { λ r. ⌜ r ≡ unsignedOf code (bitsOf code (now (bytes .entry))) ⌝ }
 {
     match code {
