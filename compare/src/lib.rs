@@ -44,4 +44,5 @@ pub type AnsiCodec = &'static Encoding;
 
 include!(concat!(env!("OUT_DIR"), "/printed.rs"));
 
+pub mod cases;
 pub mod oracle;

@@ -1,0 +1,43 @@
+//! Makes cases of a batch, from a seed: the same seed gives the same cases.
+
+mod chunk_cases;
+mod chunks;
+mod random;
+mod stored;
+
+use random::Random;
+
+/// A case: its head's fields and its data.
+pub struct Case {
+    pub mode: u8,
+    pub flags: u8,
+    pub start: u32,
+    pub length: u32,
+    pub data: Vec<u8>,
+}
+
+impl Case {
+    /// The case as a batch holds it.
+    pub fn bytes(&self) -> Vec<u8> {
+        let size = u32::try_from(self.data.len()).expect("a case is small");
+        let mut bytes = vec![self.mode, self.flags];
+        for word in [self.start, self.length, size] {
+            bytes.extend(word.to_le_bytes());
+        }
+        bytes.extend(&self.data);
+        bytes
+    }
+}
+
+/// The first `count` cases of a kind, if there is such a kind. The stored ones are the same for
+/// every seed; the others have no end.
+pub fn make(kind: &str, seed: u64, count: usize) -> Option<Box<dyn Iterator<Item = Case>>> {
+    let of_one_input = match kind {
+        "stored" => return Some(Box::new(stored::cases().into_iter().take(count))),
+        "chunk" => chunk_cases::of_one_chunk,
+        _ => return None,
+    };
+    let mut random = Random::new(seed);
+    let cases = std::iter::repeat_with(move || of_one_input(&mut random)).flatten();
+    Some(Box::new(cases.take(count)))
+}

@@ -1,0 +1,54 @@
+// The output: a lent buffer and how full it is. Each function puts something behind what is there and answers how full the buffer is then;
+// a full buffer is written out first.
+use cursor::Part;
+use cursor::Refusal;
+use libc::STDOUT_FILENO;
+
+// Writes out what the buffer holds.
+pub fn flush(out: &[u8], at: usize) {
+    let filled = Part { start: 0, len: at };
+    io::write_all(STDOUT_FILENO, filled.of(out));
+}
+
+pub fn byte(out: &mut [u8], at: usize, b: u8) -> usize {
+    if at < out.len() {
+        out[at] = b;
+        return at + 1;
+    }
+    flush(out, at);
+    if out.len() == 0 {
+        return 0;
+    }
+    out[0] = b;
+    1
+}
+
+pub fn text(out: &mut [u8], at: usize, t: &[u8]) -> usize {
+    let mut end = at;
+    for i in 0..t.len() {
+        end = byte(out, end, t[i]);
+    }
+    end
+}
+
+// A space and a number.
+pub fn number(out: &mut [u8], at: usize, n: u64) -> usize {
+    let mut digits = [0u8; 20];
+    let k = io::decimal(n, &mut digits);
+    let after = byte(out, at, b' ');
+    text(out, after, &digits[..k])
+}
+
+// A line: a word and numbers.
+pub fn line(out: &mut [u8], at: usize, word: &[u8], numbers: &[u64]) -> usize {
+    let mut end = text(out, at, word);
+    for i in 0..numbers.len() {
+        end = number(out, end, numbers[i]);
+    }
+    byte(out, end, b'\n')
+}
+
+pub fn refused(out: &mut [u8], at: usize, r: Refusal) -> usize {
+    let numbers = [r.number as u64, r.place as u64];
+    line(out, at, b"refused", &numbers)
+}
