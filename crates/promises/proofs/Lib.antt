@@ -6,4 +6,6 @@ pub mod OfName
 pub mod OfValue
 pub mod OfRecord
 pub mod OfChunk
+pub mod OfTokens
+pub mod OfSheet
 pub mod Resume

@@ -1,0 +1,47 @@
+-- `tokens`: each public call allows one answer. Assumes nothing.
+use mathlib.Core.Path.{_≡_, refl, sym, _∙_}
+use Rattle.cursor.specs.Answer.{Answer, given, refused}
+use Rattle.tokens.specs.Walk.{Met, handed, header, over, stepAnswer}
+use Rattle.tokens.specs.declared.Stepped.{Stepped}
+use Rattle.tokens.specs.declared.Stepped.the-variants as S
+use Rattle.tokens.proofs.step.Kinds as stepK
+use Rattle.tokens.proofs.step.Reads as stepR
+use Rattle.tokens.proofs.count.Kinds as countK
+use Rattle.tokens.proofs.count.Reads as countR
+use Rattle.tokens.proofs.Values.next.Kinds as nextK
+use Rattle.tokens.proofs.Values.next.Reads as nextR
+use Rattle.tokens.proofs.single_instance_offset.Kinds as singleK
+use Rattle.tokens.proofs.single_instance_offset.Reads as singleR
+use Rattle.tokens.proofs.ends_stream.Kinds as endsK
+use Rattle.tokens.proofs.ends_stream.Reads as endsR
+use Rattle.promises.proofs.One.{Single, read-back}
+
+-- (a step meets no header that it hands on)
+abbrev stepBack : Answer Met → Stepped
+stepBack (given (handed t) n) = S.Token t (record { at = n })
+stepBack (given header n) = S.End (record { at = n })
+stepBack (given over n) = S.End (record { at = n })
+stepBack (refused k p) = S.Refused (record { number = k; place = p })
+
+pub step-one : (x y : Stepped) (b : Answer Met) → stepAnswer x ≡ b → stepAnswer y ≡ b → x ≡ y
+step-one = read-back stepAnswer stepBack back
+  where
+    back : (x : Stepped) → stepBack (stepAnswer x) ≡ x
+    back (S.Token t c) = refl
+    back (S.End c) = refl
+    back (S.Refused r) = refl
+
+pub step : Single 1 stepK.ps stepK.r stepR.Post
+step κs a x y s t p q = step-one x y _ p q
+
+pub count : Single 1 countK.ps countK.r countR.Post
+count κs a x y s t p q = p ∙ sym q
+
+pub next : Single 1 nextK.ps nextK.r nextR.Post
+next κs a x y s t p q = p ∙ sym q
+
+pub single-instance-offset : Single 1 singleK.ps singleK.r singleR.Post
+single-instance-offset κs a x y s t p q = p ∙ sym q
+
+pub ends-stream : Single 1 endsK.ps endsK.r endsR.Post
+ends-stream κs a x y s t p q = p ∙ sym q

@@ -1,0 +1,5 @@
+-- Laws that the proofs here and in the crates above cite.
+pub mod Runs
+pub mod Kinded
+pub mod Reach
+pub mod Steps

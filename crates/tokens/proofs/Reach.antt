@@ -1,0 +1,257 @@
+-- Where a token ends: after its byte, and within the stream. Assumes nothing.
+use mathlib.Core.Path.{_≡_, refl, subst}
+use mathlib.Core.Bool.{Bool, true, false, _||_}
+use mathlib.Core.List.{List}
+use Prim.Native.Nat.{ℕ, zero, suc, _+_, _-_, _*_, _≤_, _<_}
+use native.Mathlib.Omega.{arith}
+use borrow.Author.Tests.{leb-true}
+use lib.Dec.{eqb, leb, ltb}
+use lib.ListN.{length, drop, length-drop}
+use Rattle.cursor.specs.Answer.{Answer, given, refused, _then_}
+use Rattle.cursor.specs.Reads.{within, numberOf, numberAt, takeAt}
+use Rattle.cursor.specs.Text.{prefixedAt}
+use Rattle.cursor.specs.declared.Part.{Part}
+use Rattle.cursor.proofs.Choice.{either}
+use Rattle.name.specs.Hash.{hashOf}
+use Rattle.name.specs.Name as N
+use Rattle.name.specs.declared.Name.{Name}
+use Rattle.value.specs.Kinds.{knownCode}
+use Rattle.value.specs.Value.{unsizedAt}
+use Rattle.value.specs.declared.Value.{Value}
+use Rattle.value.proofs.Bounds.{Between, read-between, counted-between}
+use Rattle.value.proofs.Stands.{Stands, sized-stands, unsized-stands}
+use Rattle.tokens.specs.Token.{typeAt, afterNumber, listSizeAt, afterName, afterSize, afterDependency, openAt, dependencyAt, substitutionAt, textAt, namedAt, valueAt, smallAt, textsAt, namesAt, otherAt}
+use Rattle.tokens.specs.Instance as I
+use Rattle.tokens.specs.Walk.{Met, handed, header, over, EndsAfter, placed, gistAt, headerAt, headed, onByte, turnAt}
+use Rattle.tokens.specs.declared.Flags.{Flags}
+use Rattle.tokens.specs.declared.plain.Gist.{Gist}
+use Rattle.tokens.proofs.Kinded.{Kinded, gist-kinded}
+
+lower : {A : Type 0} (low n high : ℕ) (a : Answer A) → low ≤ n → Between n high a → Between low high a
+lower low n high (given x m) l h = (omega arith, h .1)
+lower low n high (refused k p) l h = tt {0}
+
+-- what was read, and then what comes after it
+pub on : {A B : Type 0} (low high : ℕ) (a : Answer A) (f : A → ℕ → Answer B) → Between low high a
+    → ((x : A) (n : ℕ) → n ≤ high → Between n high (f x n)) → Between low high (a then f)
+on low high (given x n) f h g = lower low n high (f x n) (h .0) (g x n (h .1))
+on low high (refused k p) f h g = tt {0}
+
+always : {A B : Type 0} (low high : ℕ) (a : Answer A) (f : A → ℕ → Answer B)
+    → ((x : A) (n : ℕ) → Between low high (f x n)) → Between low high (a then f)
+always low high (given x n) f g = g x n
+always low high (refused k p) f g = tt {0}
+
+stay : {A : Type 0} (x : A) (n high : ℕ) → n ≤ high → Between n high (given x n)
+stay x n high h = (omega arith, h)
+
+-- a read, and then what comes after it
+module _ (s : List ℕ) where
+  then-number : {B : Type 0} (at w : ℕ) (f : ℕ → ℕ → Answer B) → ((x : ℕ) (n : ℕ) → n ≤ length s → Between n (length s) (f x n))
+      → Between at (length s) (numberAt s at w then f)
+  then-number at w f g = on at (length s) (numberAt s at w) f (read-between s at w (numberOf s at w)) g
+
+  -- names
+  in-place : (at : ℕ) → Between at (length s) (N.inPlaceAt s at)
+  in-place at =
+      always at (length s) (N.linkAt s at) (λ _ link. N.afterLink s at link) (λ _ link.
+      always at (length s) (numberAt s link 2) (λ n units. N.skipped s at n units) (λ n units.
+      either (λ a. Between {A = Name} at (length s) (a then λ _ next. given (record { offset = at; units = units; count = n }) next)) (leb (at + 10 + 2 * n) (length s)) _ _
+      (λ w. (omega arith, leb-true (at + 10 + 2 * n) (length s) w))
+      (λ w. tt {0})))
+
+  offset-name : (at : ℕ) → Between at (length s) (N.offsetNameAt s at)
+  offset-name at =
+      then-number at 4 (N.afterOffset s) (λ offset n h.
+      either (Between n (length s)) (eqb n offset) _ _ (λ e. in-place n) (λ e. (omega arith, h)))
+
+  units : (n at : ℕ) → at ≤ length s → Between at (length s) (N.unitsAt s at n)
+  unfolding N.unitsAt
+  units zero at h = (omega arith, h)
+  units (suc n) at h =
+      then-number at 2 _ (λ u m k. on m (length s) (N.unitsAt s m n) _ (units n m k) (λ us e l. (omega arith, l)))
+
+  inline-name : (at : ℕ) → Between at (length s) (N.inlineNameAt s at)
+  inline-name at =
+      then-number at 2 (N.afterHash s at) (λ stored n h.
+      then-number n 2 (N.afterCount s at stored) (λ count m k.
+      on m (length s) (N.unitsAt s m count) (N.afterUnits s (record { offset = at; units = m; count = count }) stored) (units count m k) (λ us e l.
+      then-number e 2 _ (λ last z i.
+      either (Between z (length s)) (eqb last 0) _ _
+      (λ p. either (Between z (length s)) (eqb stored (hashOf us)) _ _ (λ q. (omega arith, i)) (λ q. tt {0}))
+      (λ p. tt {0})))))
+
+  name : (at : ℕ) (inline : Bool) → Between at (length s) (N.nameAt s at inline)
+  name at inline = either (Between at (length s)) inline _ _ (λ e. inline-name at) (λ e. offset-name at)
+
+  -- tokens but the instance
+  type-ends : (at : ℕ) → Between at (length s) (typeAt s at)
+  type-ends at = then-number at 1 _ (λ code n h. either (Between n (length s)) (knownCode code) _ _ (λ e. (omega arith, h)) (λ e. tt {0}))
+
+  named : (inline : Bool) (kind at : ℕ) → Between at (length s) (namedAt s inline kind at)
+  named inline kind at = on at (length s) (N.nameAt s at inline) _ (name at inline) (λ x n h. (omega arith, h))
+
+  text : (kind at : ℕ) → Between at (length s) (textAt s kind at)
+  text kind at =
+      on at (length s) (prefixedAt s at false) _ (then-number at 2 _ (λ n m h. counted-between s m n)) (λ x n h. (omega arith, h))
+
+  substitution : (optional : Bool) (at : ℕ) → Between at (length s) (substitutionAt s optional at)
+  substitution optional at =
+      then-number at 2 (afterNumber s optional) (λ n m h. on m (length s) (typeAt s m) _ (type-ends m) (λ x e l. (omega arith, l)))
+
+  stands : (low high : ℕ) (a : Answer Value) → Stands (low + 1) high a → Between low high a
+  stands low high (given v n) h = (omega (arith, h .1), h .2)
+  stands low high (refused k p) h = tt {0}
+
+  token-value : (at : ℕ) → Between at (length s) (valueAt s at)
+  token-value at =
+      on at (length s) (unsizedAt s at) _ (stands at (length s) (unsizedAt s at) (unsized-stands s at)) (λ x n h. (omega arith, h))
+
+  list-size : (wide : Bool) (at : ℕ) → at ≤ length s → Between at (length s) (listSizeAt s wide at)
+  list-size wide at h =
+      either (Between at (length s)) wide _ _ (λ e. then-number at 4 _ (λ x n k. (omega arith, k))) (λ e. (omega arith, h))
+
+  dependency : (carried : Bool) (at : ℕ) → at ≤ length s → Between at (length s) (dependencyAt s carried at)
+  dependency carried at h =
+      either (Between at (length s)) carried _ _ (λ e. read-between s at 2 (numberOf s at 2)) (λ e. (omega arith, h))
+
+  opened : (f : Flags) (wide : Bool) (at : ℕ) → at ≤ length s → Between at (length s) (openAt s f wide at)
+  opened f wide at h =
+      on at (length s) (dependencyAt s (f .dependencies) at) (afterDependency s (f .inline) wide) (dependency (f .dependencies) at h) (λ d n k.
+      then-number n 4 (λ _ next. afterSize s (f .inline) wide d next) (λ _ m l.
+      on m (length s) (N.nameAt s m (f .inline)) (afterName s wide d) (name m (f .inline)) (λ x e i.
+      on e (length s) (listSizeAt s wide e) _ (list-size wide e i) (λ y z j. (omega arith, j)))))
+
+  small : (b at : ℕ) → at ≤ length s → Between at (length s) (smallAt s b at)
+  unfolding smallAt
+  small b at h =
+      let P = Between {A = Gist} at (length s) in
+      either P (eqb b 0x02) _ _ (λ e. (omega arith, h))
+      (λ e. either P (eqb b 0x03) _ _ (λ e. (omega arith, h))
+      (λ e. either P (eqb b 0x04) _ _ (λ e. (omega arith, h))
+      (λ e. either P (eqb b 0x0D) _ _ (λ e. substitution false at)
+      (λ e. either P (eqb b 0x0E) _ _ (λ e. substitution true at) (λ e. tt {0})))))
+
+  texts : (b at : ℕ) → at ≤ length s → Between at (length s) (textsAt s b at)
+  unfolding textsAt
+  texts b at h =
+      let P = Between {A = Gist} at (length s) in
+      either P (eqb b 0x07 || eqb b 0x47) _ _ (λ e. text 11 at)
+      (λ e. either P (eqb b 0x08 || eqb b 0x48) _ _ (λ e. then-number at 2 _ (λ x n k. (omega arith, k)))
+      (λ e. either P (eqb b 0x0B) _ _ (λ e. text 10 at) (λ e. small b at h)))
+
+  names : (inline : Bool) (b at : ℕ) → at ≤ length s → Between at (length s) (namesAt s inline b at)
+  unfolding namesAt
+  names inline b at h =
+      let P = Between {A = Gist} at (length s) in
+      either P (eqb b 0x06 || eqb b 0x46) _ _ (λ e. named inline 7 at)
+      (λ e. either P (eqb b 0x09 || eqb b 0x49) _ _ (λ e. named inline 8 at)
+      (λ e. either P (eqb b 0x0A) _ _ (λ e. named inline 9 at) (λ e. texts b at h)))
+
+  other : (f : Flags) (b at : ℕ) → at ≤ length s → Between at (length s) (otherAt s f b at)
+  unfolding otherAt
+  other f b at h =
+      let P = Between {A = Gist} at (length s) in
+      either P (eqb b 0x01) _ _ (λ e. opened f false at h)
+      (λ e. either P (eqb b 0x41) _ _ (λ e. opened f true at h)
+      (λ e. either P (eqb b 0x05 || eqb b 0x45) _ _ (λ e. token-value at) (λ e. names (f .inline) b at h)))
+
+  -- the instance
+  descriptor : (at : ℕ) → Between at (length s) (I.descriptorAt s at)
+  descriptor at =
+      then-number at 2 _ (λ x n h. on n (length s) (typeAt s n) _ (type-ends n) (λ y m k. then-number m 1 _ (λ z e l. (omega arith, l))))
+
+  pub table : (n at : ℕ) → at ≤ length s → Between at (length s) (I.tableAt s at n)
+  unfolding I.tableAt
+  table zero at h = (omega arith, h)
+  table (suc n) at h = on at (length s) (I.descriptorAt s at) _ (descriptor at) (λ x m k. table n m k)
+
+  value-between : (low high : ℕ) (a : Answer Value) → Stands low high a → Between low high a
+  value-between low high (given v n) h = (h .1, h .2)
+  value-between low high (refused k p) h = tt {0}
+
+  pub value : (at-table at : ℕ) → at ≤ length s → Between at (length s) (I.valueIn s at-table at)
+  value at-table at h =
+      let e : at + length (drop at s) ≡ length s = simp length-drop (omega arith) in
+      let x = I.valueIn s at-table at in
+      value-between at (length s) x (subst (λ (m : ℕ). Stands at m x) e (sized-stands (drop at s) at (numberOf s (at-table + 2) 1) (numberOf s at-table 2)))
+
+  pub values : (n at-table at : ℕ) → at ≤ length s → Between at (length s) (I.valuesAt s at-table at n)
+  unfolding I.valuesAt
+  values zero at-table at h = (omega arith, h)
+  values (suc n) at-table at h = on at (length s) (I.valueIn s at-table at) _ (value at-table at h) (λ x m k. values n (at-table + 4) m k)
+
+  definition : (offset at : ℕ) → at ≤ length s → Between at (length s) (I.definitionAt s offset at)
+  definition offset at h =
+      either (Between at (length s)) (eqb at offset) _ _
+      (λ e. then-number at 4 _ (λ x n k.
+      on n (length s) (takeAt s n 16) (I.afterBytes s) (read-between s n 16 (record { start = n; len = 16 })) (λ g m l.
+      then-number m 4 (I.skipped s g) (λ size z i.
+      either (λ a. Between z (length s) (a then λ _ next. given g next)) (leb (z + size) (length s)) _ _
+      (λ w. (omega arith, leb-true (z + size) (length s) w))
+      (λ w. tt {0})))))
+      (λ e. (omega arith, h))
+
+  after-guid : (id offset : ℕ) (g : Part) (at : ℕ) → Between at (length s) (I.afterGuid s id offset g at)
+  after-guid id offset g at =
+      then-number at 4 (I.afterCount s id offset g) (λ count n h.
+      on n (length s) (I.tableAt s n count) _ (table count n h) (λ x m k.
+      on m (length s) (I.valuesAt s n m count) _ (values count n m k) (λ y e l. (omega arith, l))))
+
+  whole-instance : (at : ℕ) → Between at (length s) (I.instanceAt s at)
+  whole-instance at =
+      then-number at 1 _ (λ x n h.
+      then-number n 4 (I.afterId s) (λ id m k.
+      then-number m 4 (I.afterOffset s id) (λ offset e l.
+      on e (length s) (I.definitionAt s offset e) (I.afterGuid s id offset) (definition offset e l) (λ g z i. after-guid id offset g z))))
+
+  pub gist-ends : (f : Flags) (b at : ℕ) → at ≤ length s → Between at (length s) (gistAt s f b at)
+  gist-ends f b at h = either (Between at (length s)) (eqb b 0x0C) _ _ (λ e. whole-instance at) (λ e. other f b at h)
+
+  header-ends : (at : ℕ) → Between at (length s) (headerAt s at)
+  header-ends at = then-number at 1 _ (λ x n h. then-number n 1 _ (λ y m k. then-number m 1 _ (λ z e l. (omega arith, l))))
+
+-- after a byte
+abbrev pub Follows : ℕ → ℕ → Answer ℕ → Type 0
+Follows at high (given x n) = (n ≡ at + 1) × (n ≤ high)
+Follows at high (refused k p) = Unit {0}
+
+pub byte-follows : (s : List ℕ) (at : ℕ) → Follows at (length s) (numberAt s at 1)
+byte-follows s at = either (Follows at (length s)) (within s at 1) _ _ (λ w. (refl, leb-true (at + 1) (length s) w)) (λ w. tt {0})
+
+pub ends : (place high : ℕ) (a : Answer Gist) → Between (place + 1) high a → EndsAfter place a
+ends place high (given g n) h = omega (arith, h .0)
+ends place high (refused k p) h = tt {0}
+
+-- a turn or a step from a position: a token stands at it or after it, and it ends after its place, within the stream, where its length
+-- says, and its kind is from 1 to 13; a header ends after the position
+abbrev pub Grows : ℕ → ℕ → Answer Met → Type 0
+Grows at high (given (handed t) n) = (at ≤ t .place) × (t .place < n) × (n ≤ high) × (t .place + t .len ≡ n) × (1 ≤ t .kind) × (t .kind ≤ 13)
+Grows at high (given header n) = (at < n) × (n ≤ high)
+Grows at high (given over n) = Unit {0}
+Grows at high (refused k p) = Unit {0}
+
+header-grows : (place high : ℕ) (a : Answer Unit) → Between (place + 1) high a → Grows place high (headed a)
+header-grows place high (given x n) h = (omega (arith, h .0), h .1)
+header-grows place high (refused k p) h = tt {0}
+
+placed-grows : (place high : ℕ) (a : Answer Gist) → Between (place + 1) high a → Kinded a → Grows place high (placed place a)
+placed-grows place high (given g n) h k = (omega arith, omega (arith, h .0), h .1, omega (arith, h .0), k .0, k .1)
+placed-grows place high (refused k p) h i = tt {0}
+
+byte-grows : (s : List ℕ) (f : Flags) (place b : ℕ) → place + 1 ≤ length s → Grows place (length s) (onByte s f place b (place + 1))
+byte-grows s f place b h =
+    let P = Grows place (length s) in
+    either P (eqb b 0x00) _ _ (λ e. tt {0})
+    (λ e. either P (eqb b 0x0F) _ _
+    (λ e. header-grows place (length s) (headerAt s (place + 1)) (header-ends s (place + 1)))
+    (λ e. placed-grows place (length s) (gistAt s f b (place + 1)) (gist-ends s f b (place + 1) h) (gist-kinded s f b (place + 1))))
+
+pub turn-grows : (s : List ℕ) (end : ℕ) (f : Flags) (at : ℕ) → Grows at (length s) (turnAt s end f at)
+unfolding turnAt
+turn-grows s end f at =
+    either (Grows at (length s)) (ltb at end) _ _
+    (λ w. either (λ a. Grows at (length s) (a then onByte s f at)) (within s at 1) _ _
+    (λ v. byte-grows s f at (numberOf s at 1) (leb-true (at + 1) (length s) v))
+    (λ v. tt {0}))
+    (λ w. tt {0})

@@ -1,0 +1,25 @@
+-- `after_table` meets its contract: the values, or their refusal. Assumes nothing.
+use mathlib.Core.Path.{sym, ap, _∙_}
+use Rattle.cursor.specs.Answers.{movedAnswer}
+use borrow.Author.Needs.{needs}
+use Rattle.tokens.proofs.template.after_table.Statement.{statement}
+use Rattle.tokens.proofs.template.after_table.Tie as tie
+
+values-requires : tie.Need-values-requires
+values-requires c κs = search needs
+
+enum-known-next : tie.Need-enum-known-next
+enum-known-next c = search needs
+
+enum-known-r : tie.Need-enum-known-r
+enum-known-r c = search needs
+
+returns : tie.Need-returns
+returns c = simp (sym (c .before .before .before .values .ensures) ∙ ap movedAnswer (c .before .next .given .1))
+
+returns-2 : tie.Need-returns-2
+returns-2 c = simp (sym (c .before .before .before .values .ensures) ∙ ap movedAnswer (c .before .r .given .1))
+
+pub after-table-spec : {M : Type 1} → statement M
+after-table-spec =
+    tie.close (tie.spec values-requires enum-known-next enum-known-r returns returns-2)

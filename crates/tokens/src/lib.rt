@@ -1,0 +1,226 @@
+// The token walk of a stream: one step, the values of an instance, the whole walk, and the single instance. The Rust: binxml/tokens.rs.
+//
+// A step goes from a position to the next token and hands out where the walk reads on. Every call takes every stream and every number.
+mod plain;
+mod template;
+mod walking;
+
+use cursor::Cursor;
+use cursor::Part;
+use cursor::Refusal;
+use cursor::View;
+use name::Name;
+use value::Value;
+use value::ValueRead;
+use walking::Turned;
+ghost use mathlib.Core.Path.{_≡_};
+ghost use Rattle.tokens.specs.Single.{singleOf, endsOf};
+ghost use Rattle.tokens.specs.Instance.{valuesOf, nextOf};
+ghost use Rattle.tokens.specs.Walk.{stepAnswer, stepAt, walkOf, countedOf};
+
+// How a stream is read: whether open tokens carry dependencies, and whether names stand inline.
+pub struct Flags {
+    pub dependencies: bool,
+    pub inline: bool,
+}
+
+// An instance: its numbers, where its GUID stands (no bytes where there is none), where its descriptors start and how many they are,
+// and where its values start.
+pub struct Instance {
+    pub id: u32,
+    pub offset: u32,
+    pub guid: Part,
+    pub table: usize,
+    pub count: u32,
+    pub values: usize,
+}
+
+// What a token holds, by its kind.
+pub enum Held {
+    Nothing,
+    Name(Name),
+    Text(View),
+    Value(Value),
+    Instance(Instance),
+}
+
+// A token: its kind (1 to 13, as in the sheet), the offset of its byte, how far it is from there to where the walk reads on, its number
+// (dependency, char, substitution, else 0), its flag (dependency present, or optional), and what it holds.
+pub struct Token {
+    pub kind: u8,
+    pub place: usize,
+    pub len: usize,
+    pub number: u16,
+    pub flag: bool,
+    pub held: Held,
+}
+
+pub enum Stepped {
+    Token(Token, Cursor),
+    End(Cursor),
+    Refused(Refusal),
+}
+
+// Where a walk over an instance's values stands: the next descriptor, how many are left, and the next value.
+pub struct Values {
+    pub table: usize,
+    pub left: u32,
+    pub at: usize,
+}
+
+pub enum NextValue {
+    // The value, its descriptor's size, and where the walk over the values goes on.
+    Value(Value, u16, Values),
+    Done,
+    Refused(Refusal),
+}
+
+pub enum Counted {
+    Count(usize),
+    Refused(Refusal),
+}
+
+// Where the instance of a single instance's stream starts, after its token byte.
+pub enum Single {
+    At(usize),
+    Nothing,
+}
+
+// Whether a stream ends after what was read of it.
+pub enum Ends {
+    Yes,
+    No,
+    Beyond,
+}
+
+impl Token {
+    pub const INSTANCE: u8 = 1;
+
+    pub const OPEN: u8 = 2;
+
+    pub const CLOSE_START: u8 = 3;
+
+    pub const CLOSE_EMPTY: u8 = 4;
+
+    pub const CLOSE_ELEMENT: u8 = 5;
+
+    pub const VALUE: u8 = 6;
+
+    pub const ATTRIBUTE: u8 = 7;
+
+    pub const ENTITY_REF: u8 = 8;
+
+    pub const PI_TARGET: u8 = 9;
+
+    pub const PI_DATA: u8 = 10;
+
+    pub const CDATA: u8 = 11;
+
+    pub const CHAR_REF: u8 = 12;
+
+    pub const SUBSTITUTION: u8 = 13;
+}
+
+// Where a single instance starts.
+pub fn single_instance_offset(s: &[u8]) -> Single
+    ensures { λ r. ⌜ r ≡ singleOf (now (s .entry)) ⌝ }
+{
+    let first = cursor::u8_at(s, 0);
+    if first == 0x0C {
+        return Single::At(1);
+    }
+    if s.len() < 6 {
+        return Single::Nothing;
+    }
+    if first != 0x0F {
+        return Single::Nothing;
+    }
+    if cursor::u8_at(s, 4) != 0x0C {
+        return Single::Nothing;
+    }
+    Single::At(5)
+}
+
+// Whether a single instance's stream ends after the bytes that were read.
+pub fn ends_stream(s: &[u8], consumed: usize) -> Ends
+    ensures { λ r. ⌜ r ≡ endsOf (now (s .entry)) consumed ⌝ }
+{
+    if s.len() < consumed {
+        return Ends::Beyond;
+    }
+    if s.len() == consumed {
+        return Ends::Yes;
+    }
+    if cursor::u8_at(s, consumed) == 0 {
+        return Ends::Yes;
+    }
+    Ends::No
+}
+
+// One step: the next token from a position on and where the walk reads on, or the walk's end. `end` is start plus length.
+pub fn step(s: &[u8], at: usize, end: usize, flags: Flags) -> Stepped
+    ensures { λ r. ⌜ stepAnswer r ≡ stepAt (now (s .entry)) end flags at ⌝ }
+{
+    let mut here = at;
+    loop {
+        match walking::turn(s, here, end, flags) {
+            Turned::Token(t, next) => return Stepped::Token(t, next),
+            Turned::Header(next) => here = next.at,
+            Turned::Over(c) => return Stepped::End(c),
+            Turned::Refused(r) => return Stepped::Refused(r),
+        }
+    }
+}
+
+// How many tokens the whole walk hands on.
+pub fn count(s: &[u8], start: u32, length: u32, flags: Flags) -> Counted
+    ensures { λ r. ⌜ r ≡ countedOf (walkOf (now (s .entry)) start length flags) ⌝ }
+{
+    if 0x1_0000 < s.len() {
+        return Counted::Refused(Refusal {
+            number: Refusal::WRONG_LENGTH,
+            place: 0,
+        });
+    }
+    if s.len() < start as usize {
+        return Counted::Refused(Refusal {
+            number: Refusal::PAST_END,
+            place: start as usize,
+        });
+    }
+    walking::count_from(s, start as usize, start as usize + length as usize, flags)
+}
+
+impl Values {
+    // The walk over the values of an instance, from its first.
+    pub fn of(i: Instance) -> Values
+        ensures { λ r. ⌜ r ≡ valuesOf i ⌝ }
+    {
+        Values {
+            table: i.table,
+            left: i.count,
+            at: i.values,
+        }
+    }
+
+    // The next value.
+    pub fn next(self, s: &[u8]) -> NextValue
+        ensures { λ r. ⌜ r ≡ nextOf (now (s .entry)) self ⌝ }
+    {
+        if self.left == 0 {
+            return NextValue::Done;
+        }
+        match template::value_in(self.table, self.at, s) {
+            ValueRead::Read(v, next) => NextValue::Value(
+                v,
+                cursor::u16_at(s, self.table),
+                Values {
+                    table: self.table + 4,
+                    left: self.left - 1,
+                    at: next.at,
+                },
+            ),
+            ValueRead::Refused(r) => NextValue::Refused(r),
+        }
+    }
+}

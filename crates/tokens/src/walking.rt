@@ -1,0 +1,142 @@
+// One turn of the walk: a token, a fragment header, the end, or a refusal.
+use crate::Counted;
+use crate::Flags;
+use crate::Stepped;
+use crate::Token;
+use crate::plain;
+use crate::plain::Gist;
+use crate::plain::GistRead;
+use crate::step;
+use crate::template;
+use cursor::Cursor;
+use cursor::Moved;
+use cursor::ReadU8;
+use cursor::Refusal;
+ghost use mathlib.Core.Path.{_≡_};
+ghost use Prim.Native.Nat.{_+_, _≤_};
+ghost use lib.ListN.{length};
+ghost use Rattle.cursor.specs.Answers.{movedAnswer};
+ghost use Rattle.tokens.specs.Token.{gistAnswer};
+ghost use Rattle.tokens.specs.Walk.{EndsAfter, turnAnswer, turnAt, tokenOf, onByte, gistAt, headerAt, afterMajor, afterMinor, placed, headed, walkAt, countedOf};
+
+pub enum Turned {
+    Token(Token, Cursor),
+    Header(Cursor),
+    Over(Cursor),
+    Refused(Refusal),
+}
+
+pub(crate) fn turn(s: &[u8], at: usize, end: usize, flags: Flags) -> Turned
+    ensures { λ r. ⌜ turnAnswer r ≡ turnAt (now (s .entry)) end flags at ⌝ }
+{
+    let c = Cursor { at: at };
+    if end <= at {
+        return Turned::Over(c);
+    }
+    match c.u8(s) {
+        ReadU8::Value(b, next) => on_byte(at, b, next, s, flags),
+        ReadU8::Refused(r) => Turned::Refused(r),
+    }
+}
+
+fn on_byte(place: usize, b: u8, c: Cursor, s: &[u8], flags: Flags) -> Turned
+    requires { ⌜ (c .at ≡ place + 1) × (c .at ≤ length (now s)) ⌝ }
+    ensures { λ r. ⌜ turnAnswer r ≡ onByte (now (s .entry)) flags place b (c .at) ⌝ }
+{
+    match b {
+        0x00 => Turned::Over(c),
+        0x0F => headed(header(c, s)),
+        _ => placed(place, gist_at(b, c, s, flags)),
+    }
+}
+
+fn gist_at(b: u8, c: Cursor, s: &[u8], flags: Flags) -> GistRead
+    ensures { λ r. ⌜ gistAnswer r ≡ gistAt (now (s .entry)) flags b (c .at) ⌝ }
+{
+    if b == 0x0C {
+        template::read(c, s)
+    } else {
+        plain::other(b, c, s, flags)
+    }
+}
+
+// The token of what was read, from its place to where the walk reads on.
+fn placed(place: usize, got: GistRead) -> Turned
+    requires { ⌜ EndsAfter place (gistAnswer got) ⌝ }
+    ensures { λ r. ⌜ turnAnswer r ≡ placed place (gistAnswer got) ⌝ }
+{
+    match got {
+        GistRead::Read(g, next) => Turned::Token(token_of(place, g, next.at), next),
+        GistRead::Refused(r) => Turned::Refused(r),
+    }
+}
+
+fn token_of(place: usize, g: Gist, next: usize) -> Token
+    requires { ⌜ place ≤ next ⌝ }
+    ensures { λ r. ⌜ r ≡ tokenOf place g next ⌝ }
+{
+    let held = g.held;
+    Token {
+        kind: g.kind,
+        place: place,
+        len: next - place,
+        number: g.number,
+        flag: g.flag,
+        held: held,
+    }
+}
+
+fn headed(got: Moved) -> Turned
+    ensures { λ r. ⌜ turnAnswer r ≡ headed (movedAnswer got) ⌝ }
+{
+    match got {
+        Moved::To(next) => Turned::Header(next),
+        Moved::Refused(r) => Turned::Refused(r),
+    }
+}
+
+// A fragment header's three bytes: major version, minor version, flags.
+fn header(c: Cursor, s: &[u8]) -> Moved
+    ensures { λ r. ⌜ movedAnswer r ≡ headerAt (now (s .entry)) (c .at) ⌝ }
+{
+    match c.u8(s) {
+        ReadU8::Value(_, next) => after_major(next, s),
+        ReadU8::Refused(r) => Moved::Refused(r),
+    }
+}
+
+fn after_major(c: Cursor, s: &[u8]) -> Moved
+    ensures { λ r. ⌜ movedAnswer r ≡ afterMajor (now (s .entry)) (c .at) ⌝ }
+{
+    match c.u8(s) {
+        ReadU8::Value(_, next) => after_minor(next, s),
+        ReadU8::Refused(r) => Moved::Refused(r),
+    }
+}
+
+fn after_minor(c: Cursor, s: &[u8]) -> Moved
+    ensures { λ r. ⌜ movedAnswer r ≡ afterMinor (now (s .entry)) (c .at) ⌝ }
+{
+    match c.u8(s) {
+        ReadU8::Value(_, next) => Moved::To(next),
+        ReadU8::Refused(r) => Moved::Refused(r),
+    }
+}
+
+// The tokens from a position on.
+pub(crate) fn count_from(s: &[u8], start: usize, end: usize, flags: Flags) -> Counted
+    ensures { λ r. ⌜ r ≡ countedOf (walkAt (now (s .entry)) end flags start) ⌝ }
+{
+    let mut at = start;
+    let mut n: usize = 0;
+    loop {
+        match step(s, at, end, flags) {
+            Stepped::Token(_, next) => {
+                at = next.at;
+                n += 1;
+            }
+            Stepped::End(_) => return Counted::Count(n),
+            Stepped::Refused(r) => return Counted::Refused(r),
+        }
+    }
+}
