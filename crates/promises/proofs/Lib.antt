@@ -9,3 +9,4 @@ pub mod OfChunk
 pub mod OfTokens
 pub mod OfSheet
 pub mod Resume
+pub mod Samples

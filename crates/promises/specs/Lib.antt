@@ -1,0 +1,2 @@
+-- Document 01's samples that are to be proved.
+pub mod Samples
