@@ -4,6 +4,9 @@ mod chunk_cases;
 mod chunks;
 mod random;
 mod stored;
+mod stored_tokens;
+mod streams;
+mod token_cases;
 
 use random::Random;
 
@@ -35,6 +38,7 @@ pub fn make(kind: &str, seed: u64, count: usize) -> Option<Box<dyn Iterator<Item
     let of_one_input = match kind {
         "stored" => return Some(Box::new(stored::cases().into_iter().take(count))),
         "chunk" => chunk_cases::of_one_chunk,
+        "token" => token_cases::of_one_stream,
         _ => return None,
     };
     let mut random = Random::new(seed);

@@ -1,14 +1,18 @@
 // Answers a batch of cases: cases come on standard input, their answers go to standard output. Each mode has a file of its own; this one
 // reads the cases and finds the mode. No rule of the format stands in this program: it reads, asks the libraries, and prints.
+mod content;
 mod header;
 mod item;
 mod one_record;
 mod print;
+mod single;
 mod step;
+mod token;
 mod walk;
 
 use cursor::Part;
 use libc::STDIN_FILENO;
+use tokens::Flags;
 
 // The head of a case: mode, flags, start, length, and how much data follows.
 const HEAD: usize = 14;
@@ -20,7 +24,8 @@ const MOST_DATA: usize = 131072;
 struct Case {
     mode: u8,
     flags: u8,
-    start: usize,
+    start: u32,
+    length: u32,
     data: usize,
 }
 
@@ -70,7 +75,8 @@ fn case_of(head: &[u8]) -> Case {
     Case {
         mode: cursor::u8_at(head, 0),
         flags: cursor::u8_at(head, 1),
-        start: cursor::u32_at(head, 2) as usize,
+        start: cursor::u32_at(head, 2),
+        length: cursor::u32_at(head, 6),
         data: cursor::u32_at(head, 10) as usize,
     }
 }
@@ -109,6 +115,8 @@ fn least_data(mode: u8) -> usize {
         b'R' => 0,
         b'W' => 0,
         b'P' => step::STATE,
+        b'T' => 0,
+        b'S' => 0,
         _ => MOST_DATA + 1,
     }
 }
@@ -119,9 +127,26 @@ fn answer(out: &mut [u8], at: usize, case: Case, bytes: &[u8]) -> usize {
     let first = case.flags % 2 == 1;
     match mode {
         b'H' => header::answer(out, at, bytes),
-        b'R' => one_record::answer(out, at, bytes, case.start, first),
+        b'R' => one_record::answer(out, at, bytes, case.start as usize, first),
         b'W' => walk::answer(out, at, bytes, first),
         b'P' => step::answer(out, at, bytes),
+        b'T' => token::answer(
+            out,
+            at,
+            bytes,
+            case.start,
+            case.length,
+            walk_flags(case.flags),
+        ),
+        b'S' => single::answer(out, at, bytes, case.start as usize),
         _ => at,
+    }
+}
+
+// How a token stream is read: flag 1, dependencies carried; flag 2, names inline.
+fn walk_flags(flags: u8) -> Flags {
+    Flags {
+        dependencies: flags % 2 == 1,
+        inline: flags / 2 % 2 == 1,
     }
 }

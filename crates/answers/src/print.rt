@@ -31,12 +31,44 @@ pub fn text(out: &mut [u8], at: usize, t: &[u8]) -> usize {
     end
 }
 
-// A space and a number.
-pub fn number(out: &mut [u8], at: usize, n: u64) -> usize {
+// A number.
+pub fn decimal(out: &mut [u8], at: usize, n: u64) -> usize {
     let mut digits = [0u8; 20];
     let k = io::decimal(n, &mut digits);
+    text(out, at, &digits[..k])
+}
+
+// A space and a number.
+pub fn number(out: &mut [u8], at: usize, n: u64) -> usize {
     let after = byte(out, at, b' ');
-    text(out, after, &digits[..k])
+    decimal(out, after, n)
+}
+
+fn digit(n: u8) -> u8 {
+    let d = n % 16;
+    if d < 10 { b'0' + d } else { b'a' + (d - 10) }
+}
+
+// A byte in two hexadecimal digits.
+pub fn two_digits(out: &mut [u8], at: usize, b: u8) -> usize {
+    let after = byte(out, at, digit(b / 16));
+    byte(out, after, digit(b))
+}
+
+// Bytes in hexadecimal; a dash where there are none.
+pub fn hex(out: &mut [u8], at: usize, bytes: &[u8]) -> usize {
+    if bytes.len() == 0 {
+        return byte(out, at, b'-');
+    }
+    digits(out, at, bytes)
+}
+
+fn digits(out: &mut [u8], at: usize, bytes: &[u8]) -> usize {
+    let mut end = at;
+    for i in 0..bytes.len() {
+        end = two_digits(out, end, bytes[i]);
+    }
+    end
 }
 
 // A line: a word and numbers.
