@@ -37,6 +37,6 @@ fn read(arguments: &[String]) -> Option<(u64, usize, &str, Option<usize>)> {
 }
 
 fn usage() -> ExitCode {
-    eprintln!("usage: make-cases SEED COUNT chunk|token|stored [--only NUMBER] >batch");
+    eprintln!("usage: make-cases SEED COUNT chunk|token|types|stored [--only NUMBER] >batch");
     ExitCode::from(2)
 }

@@ -7,6 +7,7 @@ mod stored;
 mod stored_tokens;
 mod streams;
 mod token_cases;
+mod types;
 
 use random::Random;
 
@@ -32,11 +33,12 @@ impl Case {
     }
 }
 
-/// The first `count` cases of a kind, if there is such a kind. The stored ones are the same for
-/// every seed; the others have no end.
+/// The first `count` cases of a kind, if there is such a kind. The stored ones, and those of the
+/// type codes, are the same for every seed; the others have no end.
 pub fn make(kind: &str, seed: u64, count: usize) -> Option<Box<dyn Iterator<Item = Case>>> {
     let of_one_input = match kind {
         "stored" => return Some(Box::new(stored::cases().into_iter().take(count))),
+        "types" => return Some(Box::new(types::cases().take(count))),
         "chunk" => chunk_cases::of_one_chunk,
         "token" => token_cases::of_one_stream,
         _ => return None,
