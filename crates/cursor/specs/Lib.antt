@@ -4,3 +4,4 @@ pub mod Refusals
 pub mod Reads
 pub mod Text
 pub mod Answers
+pub mod Lent

@@ -52,6 +52,12 @@ impl Refusal {
     pub const SIZE_COPY: u8 = 17;
 }
 
+// What a call that counts answers: how many tokens or answers there are, or a refusal. One enum for all crates.
+pub enum Counted {
+    Count(usize),
+    Refused(Refusal),
+}
+
 // A position in a slice.
 pub struct Cursor {
     pub at: usize,

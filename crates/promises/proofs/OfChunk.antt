@@ -14,12 +14,12 @@ use Rattle.record.specs.Chunk.{fieldsAt}
 use Rattle.record.specs.declared.Fields.{Fields}
 use Rattle.chunk.specs.Allowed.{resyncable}
 use Rattle.chunk.specs.Walk.{Choose, resyncOn, ResyncAfter}
-use Rattle.chunk.specs.Listing.{Runs, Counted, listsOn, Lists, rowsOf, laid}
+use Rattle.cursor.specs.declared.Counted.{Counted}
+use Rattle.chunk.specs.Listing.{Runs, RowsAnswer, listsOn, Lists, rowsOf}
 use Rattle.chunk.specs.declared.Walk.{Walk}
 use Rattle.chunk.specs.declared.Item.{Item}
 use Rattle.chunk.specs.declared.Resync.{Resync}
 use Rattle.chunk.specs.declared.Resync.the-variants as R
-use Rattle.chunk.specs.declared.Listed.{Listed}
 use Rattle.chunk.proofs.Leasts.{one}
 use Rattle.chunk.proofs.OneStep.{step-one}
 use Rattle.chunk.proofs.Counting.{runs-one}
@@ -51,15 +51,15 @@ pub resync-after : Single 1 resyncK.ps resyncK.r resyncR.Post
 resync-after κs a x y s t p q = resync-by _ _ x y (fieldsAt _) p q
 
 -- of two claims that a test chooses from, each fixes the answer and the rows
-chosen-one : (b : Bool) (c r x y : Listed) (w v m n : List ℕ)
+chosen-one : (b : Bool) (c r x y : Counted) (w v m n : List ℕ)
     → Choose b ((x ≡ c) × (m ≡ w)) ((x ≡ r) × (m ≡ v)) → Choose b ((y ≡ c) × (n ≡ w)) ((y ≡ r) × (n ≡ v)) → (x ≡ y) × (m ≡ n)
 chosen-one true c r x y w v m n (p, q) (e, f) = (p ∙ sym e, q ∙ sym f)
 chosen-one false c r x y w v m n (p, q) (e, f) = (p ∙ sym e, q ∙ sym f)
 
-lists-by : (s : List ℕ) (w : Walk) (lent m n : List ℕ) (x y : Listed) (f : Answer Fields) → listsOn s w lent m x f → listsOn s w lent n y f → (x ≡ y) × (m ≡ n)
+pub lists-by : (s : List ℕ) (w : Walk) (lent m n : List ℕ) (x y : Counted) (f : Answer Fields) → listsOn s w lent m x f → listsOn s w lent n y f → (x ≡ y) × (m ≡ n)
 lists-by s w lent m n x y (given h k) (items, (r, c)) (others, (q, d)) =
     let e = runs-one s w others items q r in
-    chosen-one (leb (length (rowsOf items)) (length lent)) _ _ x y _ _ m n c (subst (λ (l : List Item). Counted l lent n y) e d)
+    chosen-one (leb (length (rowsOf items)) (length lent)) _ _ x y _ _ m n c (subst (λ (l : List Item). RowsAnswer l lent n y) e d)
 lists-by s w lent m n x y (refused k p) (a, b) (c, d) = (a ∙ sym c, b ∙ sym d)
 
 -- answer and lent rows

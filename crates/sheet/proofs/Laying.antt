@@ -10,14 +10,14 @@ use lib.Seq.{drop-cons, set-append-seam, append-snoc}
 use lib.Dec.{leb}
 use Rattle.cursor.specs.Answer.{Answer, given, refused, pick}
 use Rattle.cursor.specs.Refusals.{noRoom}
+use Rattle.cursor.specs.Lent.{laid}
 use Rattle.cursor.specs.declared.Refusal.{Refusal}
 use Rattle.tokens.specs.Walk.{Met, handed, header, over, Walked, ok, bad, before, after, stepAt, walkFrom, walkAt, walkOf, countedOf}
 use Rattle.tokens.specs.declared.Flags.{Flags}
 use Rattle.tokens.specs.declared.Token.{Token}
-use Rattle.tokens.specs.declared.Counted.the-variants as C
+use Rattle.cursor.specs.declared.Counted.the-variants as C
 use Rattle.tokens.proofs.Steps.{walk-token, walk-is}
-use Rattle.sheet.specs.Sheet.{wordOf, wordsOf, laid, sheetAnswer, sheetWords, RoomFor, WalkLaid}
-use Rattle.sheet.specs.declared.Filled.the-variants as F
+use Rattle.sheet.specs.Sheet.{wordOf, wordsOf, sheetAnswer, sheetWords, RoomFor, WalkLaid}
 
 -- one word more
 laid-store : (words lent : List ℕ) (a : ℕ) → length words < length lent → set (laid words lent) (length words) a ≡ laid (words ++ (a ∷ [])) lent
@@ -122,32 +122,32 @@ counted-is (ok l) n e = (l, (refl, cc))
 counted-is (bad k p) n e = let z : _≡_ {A = ℕ} 0 1 = cc in absurd (omega arith)
 
 module _ (l : List Token) (lent : List ℕ) (n : ℕ) (e : length l ≡ n) where
-  short-of : length lent < n → (F.Refused (record { number = noRoom; place = n }) ≡ sheetAnswer (ok l) lent) × (lent ≡ sheetWords (ok l) lent)
+  short-of : length lent < n → (C.Refused (record { number = noRoom; place = n }) ≡ sheetAnswer (ok l) lent) × (lent ≡ sheetWords (ok l) lent)
   short-of h =
       let b = lt-leb (1 * length l) (length lent) (omega arith) in
       let m : n ≡ 1 * length l = omega arith in
-      (ap (λ (k : ℕ). F.Refused (record { number = noRoom; place = k })) m ∙ rw b, rw b)
+      (ap (λ (k : ℕ). C.Refused (record { number = noRoom; place = k })) m ∙ rw b, rw b)
 
-  there-of : n ≤ length lent → (words : List ℕ) → words ≡ laid (wordsOf l) lent → (F.Count n ≡ sheetAnswer (ok l) lent) × (words ≡ sheetWords (ok l) lent)
+  there-of : n ≤ length lent → (words : List ℕ) → words ≡ laid (wordsOf l) lent → (C.Count n ≡ sheetAnswer (ok l) lent) × (words ≡ sheetWords (ok l) lent)
   there-of h words k =
       let b = le-leb (1 * length l) (length lent) (omega arith) in
-      (ap F.Count (sym e) ∙ rw b, k ∙ rw b)
+      (ap C.Count (sym e) ∙ rw b, k ∙ rw b)
 
 module _ (w : Walked) (lent : List ℕ) (n : ℕ) (c : countedOf w ≡ C.Count n) where
   pub list-of : (l : List Token) × ((w ≡ ok l) × (length l ≡ n))
   list-of = counted-is w n c
 
-  pub too-short : length lent < n → (F.Refused (record { number = noRoom; place = n }) ≡ sheetAnswer w lent) × (lent ≡ sheetWords w lent)
+  pub too-short : length lent < n → (C.Refused (record { number = noRoom; place = n }) ≡ sheetAnswer w lent) × (lent ≡ sheetWords w lent)
   too-short h =
       let y = list-of in
-      subst (λ (v : Walked). (F.Refused (record { number = noRoom; place = n }) ≡ sheetAnswer v lent) × (lent ≡ sheetWords v lent)) (sym (y .1 .0))
+      subst (λ (v : Walked). (C.Refused (record { number = noRoom; place = n }) ≡ sheetAnswer v lent) × (lent ≡ sheetWords v lent)) (sym (y .1 .0))
       (short-of (y .0) lent n (y .1 .1) h)
 
   pub all-there : n ≤ length lent → (words : List ℕ) → ((l : List Token) → w ≡ ok l → words ≡ laid (wordsOf l) lent)
-      → (F.Count n ≡ sheetAnswer w lent) × (words ≡ sheetWords w lent)
+      → (C.Count n ≡ sheetAnswer w lent) × (words ≡ sheetWords w lent)
   all-there h words k =
       let y = list-of in
-      subst (λ (v : Walked). (F.Count n ≡ sheetAnswer v lent) × (words ≡ sheetWords v lent)) (sym (y .1 .0))
+      subst (λ (v : Walked). (C.Count n ≡ sheetAnswer v lent) × (words ≡ sheetWords v lent)) (sym (y .1 .0))
       (there-of (y .0) lent n (y .1 .1) h words (k (y .0) (y .1 .0)))
 
 -- a walk that was read is the walk from its start
@@ -161,6 +161,6 @@ unfolding walkOf
 walk-at s start len f l e = read-at (leb (length s) 65536) (leb start (length s)) (walkAt s (start + len) f start) (ok []) _ _ _ _ l e
 
 -- a walk that is refused
-pub walk-refused : (w : Walked) (lent : List ℕ) (r : Refusal) → countedOf w ≡ C.Refused r → (F.Refused r ≡ sheetAnswer w lent) × (lent ≡ sheetWords w lent)
+pub walk-refused : (w : Walked) (lent : List ℕ) (r : Refusal) → countedOf w ≡ C.Refused r → (C.Refused r ≡ sheetAnswer w lent) × (lent ≡ sheetWords w lent)
 walk-refused (ok l) lent r e = let z : _≡_ {A = ℕ} 0 1 = cc in absurd (omega arith)
-walk-refused (bad k p) lent r e = (let y : r ≡ record { number = k; place = p } = cc in ap F.Refused y, refl)
+walk-refused (bad k p) lent r e = (let y : r ≡ record { number = k; place = p } = cc in ap C.Refused y, refl)

@@ -1,17 +1,18 @@
 -- The sheet. Document 01, "Sheet and C calls".
 use mathlib.Core.Path.{_≡_}
 use mathlib.Core.Bool.{Bool, true, false}
-use mathlib.Core.List.{List, [], _∷_, _++_, map}
+use mathlib.Core.List.{List, map}
 use Prim.Native.Nat.{ℕ, _+_, _*_, _%_, _^_, _≤_}
 use lib.Dec.{leb}
-use lib.ListN.{length, drop}
+use lib.ListN.{length}
 use Rattle.cursor.specs.Answer.{pick}
 use Rattle.cursor.specs.Refusals.{noRoom}
+use Rattle.cursor.specs.Lent.{laid}
+use Rattle.cursor.specs.declared.Counted.{Counted}
+use Rattle.cursor.specs.declared.Counted.the-variants as C
 use Rattle.tokens.specs.Walk.{Walked, ok, bad, walkAt}
 use Rattle.tokens.specs.declared.Flags.{Flags}
 use Rattle.tokens.specs.declared.Token.{Token}
-use Rattle.sheet.specs.declared.Filled.{Filled}
-use Rattle.sheet.specs.declared.Filled.the-variants as F
 
 abbrev pub flagBit : Bool → ℕ
 flagBit true = 1
@@ -29,15 +30,11 @@ wordsPerToken = 1
 abbrev pub wordsOf : List Token → List ℕ
 wordsOf l = map wordOf l
 
--- "words past the token count stay, in the sheet too"
-abbrev pub laid : List ℕ → List ℕ → List ℕ
-laid words lent = words ++ drop (length words) lent
-
 -- the walk's refusal; then "lent sheet or table too short": 16, "words needed"; else the count
-abbrev pub sheetAnswer : Walked → List ℕ → Filled
+abbrev pub sheetAnswer : Walked → List ℕ → Counted
 sheetAnswer (ok l) lent =
-    pick (leb (wordsPerToken * length l) (length lent)) (F.Count (length l)) (F.Refused (record { number = noRoom; place = wordsPerToken * length l }))
-sheetAnswer (bad k p) lent = F.Refused (record { number = k; place = p })
+    pick (leb (wordsPerToken * length l) (length lent)) (C.Count (length l)) (C.Refused (record { number = noRoom; place = wordsPerToken * length l }))
+sheetAnswer (bad k p) lent = C.Refused (record { number = k; place = p })
 
 -- "A refusal writes nothing."
 abbrev pub sheetWords : Walked → List ℕ → List ℕ

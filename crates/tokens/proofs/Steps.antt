@@ -8,8 +8,8 @@ use Rattle.cursor.specs.Answer.{Answer, given, refused}
 use Rattle.tokens.specs.Walk.{Met, handed, header, over, turnAt, onward, stepFrom, stepAt, Walked, ok, bad, before, after, walkFrom, walkAt, countedOf}
 use Rattle.tokens.specs.declared.Flags.{Flags}
 use Rattle.tokens.specs.declared.Token.{Token}
-use Rattle.tokens.specs.declared.Counted.{Counted}
-use Rattle.tokens.specs.declared.Counted.the-variants as C
+use Rattle.cursor.specs.declared.Counted.{Counted}
+use Rattle.cursor.specs.declared.Counted.the-variants as C
 use Rattle.tokens.proofs.Reach.{Grows, turn-grows}
 
 grows-lower : (low n high : ℕ) (a : Answer Met) → low < n → Grows n high a → Grows low high a

@@ -12,8 +12,8 @@ use Rattle.tokens.specs.Instance.{instanceAt}
 use Rattle.tokens.specs.declared.Flags.{Flags}
 use Rattle.tokens.specs.declared.plain.Gist.{Gist}
 use Rattle.tokens.specs.declared.Token.{Token}
-use Rattle.tokens.specs.declared.Counted.{Counted}
-use Rattle.tokens.specs.declared.Counted.the-variants as C
+use Rattle.cursor.specs.declared.Counted.{Counted}
+use Rattle.cursor.specs.declared.Counted.the-variants as C
 use Rattle.tokens.specs.declared.Stepped.{Stepped}
 use Rattle.tokens.specs.declared.Stepped.the-variants as S
 use Rattle.tokens.specs.declared.walking.Turned.{Turned}

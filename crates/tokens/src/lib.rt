@@ -5,6 +5,7 @@ mod plain;
 mod template;
 mod walking;
 
+use cursor::Counted;
 use cursor::Cursor;
 use cursor::Part;
 use cursor::Refusal;
@@ -72,11 +73,6 @@ pub enum NextValue {
     // The value, its descriptor's size, and where the walk over the values goes on.
     Value(Value, u16, Values),
     Done,
-    Refused(Refusal),
-}
-
-pub enum Counted {
-    Count(usize),
     Refused(Refusal),
 }
 

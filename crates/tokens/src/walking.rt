@@ -1,5 +1,4 @@
 // One turn of the walk: a token, a fragment header, the end, or a refusal.
-use crate::Counted;
 use crate::Flags;
 use crate::Stepped;
 use crate::Token;
@@ -8,6 +7,7 @@ use crate::plain::Gist;
 use crate::plain::GistRead;
 use crate::step;
 use crate::template;
+use cursor::Counted;
 use cursor::Cursor;
 use cursor::Moved;
 use cursor::ReadU8;
