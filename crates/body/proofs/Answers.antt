@@ -1,0 +1,122 @@
+-- From what the reader says of a walk's kinds to the public call's answer. Assumes nothing.
+use mathlib.Core.Path.{_≡_, refl, sym, ap, subst, _∙_}
+use mathlib.Core.Bool.{Bool, true, false}
+use mathlib.Core.List.{List}
+use Prim.Native.Nat.{ℕ, _+_, _≤_, _<_}
+use native.Mathlib.Omega.{arith}
+use borrow.Author.Tests.{leb-true, leb-false, le-leb, lt-leb}
+use lib.Dec.{leb}
+use lib.ListN.{length, take, length-map, length-take}
+use Rattle.cursor.specs.Answer.{pick}
+use Rattle.cursor.specs.Lent.{laid}
+use Rattle.cursor.specs.Refusals.{wrongLength, pastEnd, noRoom}
+use Rattle.tokens.specs.Walk.{Walked, ok, bad, countedOf, walkAt, walkOf}
+use Rattle.tokens.specs.declared.Flags.{Flags}
+use Rattle.tokens.specs.declared.Token.{Token}
+use Rattle.body.specs.Grammar.{Reading}
+use Rattle.body.specs.Verdict.{kindsOf, Answered, unread, no-room, a-body}
+use Rattle.body.specs.Verdict as verdict
+use Rattle.body.specs.Reader.{Out, accepted, refused, begin, outcome, wordsFrom, judgedOf, tableOf}
+use Rattle.cursor.specs.declared.Counted.{Counted}
+use Rattle.cursor.specs.declared.Refusal.{Refusal}
+use Rattle.cursor.specs.declared.Counted.the-variants as C
+use Rattle.body.proofs.Agree.{read-body}
+use Rattle.body.proofs.Refusing.{refuses-right}
+
+module _ (l : List Token) (lent : List ℕ) where
+  count : length (kindsOf l) ≡ length l
+  count = length-map l (λ (t : Token). t .kind)
+
+  -- a body: there is room, or not
+  read-answered : (words : List ℕ) → Reading 64 (kindsOf l) words
+      → Answered lent (tableOf accepted words lent) (ok l) (judgedOf accepted (length (kindsOf l)) (length lent))
+  read-answered words r =
+      let a : length words ≡ length l = r .each ∙ count in
+      subst (λ (n : ℕ). Answered lent (tableOf accepted words lent) (ok l) (judgedOf accepted n (length lent))) (sym count)
+      (subst (λ (n : ℕ). Answered lent (pick (leb n (length lent)) (laid words lent) lent) (ok l) (judgedOf accepted (length l) (length lent))) (sym a)
+      (by-room words r (leb (length l) (length lent)) refl))
+    where
+      by-room : (words : List ℕ) → Reading 64 (kindsOf l) words → (b : Bool) → leb (length l) (length lent) ≡ b
+          → Answered lent (pick b (laid words lent) lent) (ok l) (pick b (C.Count (length l)) (C.Refused (record { number = noRoom; place = length l })))
+      by-room words r true e = a-body l words r (leb-true (length l) (length lent) e) refl
+      by-room words r false e = no-room l words r (leb-false (length l) (length lent) e) refl
+
+  by-outcome : (x : Out) → outcome 64 begin 0 (kindsOf l) ≡ x
+      → Answered lent (tableOf x (wordsFrom 64 begin 0 (kindsOf l)) lent) (ok l) (judgedOf x (length (kindsOf l)) (length lent))
+  by-outcome accepted e = read-answered (wordsFrom 64 begin 0 (kindsOf l)) (read-body 64 (kindsOf l) e)
+  by-outcome (refused k p) e = verdict.refused l k p (refuses-right (kindsOf l) k p e) refl
+
+  -- the reader's answer for the kinds of a walk is the call's
+  pub answered : (left : List ℕ) (r : Counted) → r ≡ judgedOf (outcome 64 begin 0 (kindsOf l)) (length (kindsOf l)) (length lent)
+      → left ≡ tableOf (outcome 64 begin 0 (kindsOf l)) (wordsFrom 64 begin 0 (kindsOf l)) lent → Answered lent left (ok l) r
+  answered left r e f =
+      subst (λ (x : List ℕ). Answered lent x (ok l) r) (sym f)
+      (subst (Answered lent (tableOf (outcome 64 begin 0 (kindsOf l)) (wordsFrom 64 begin 0 (kindsOf l)) lent) (ok l)) (sym e)
+      (by-outcome (outcome 64 begin 0 (kindsOf l)) refl))
+
+-- a walk that was counted, and a walk that was refused
+counted-is : (w : Walked) (n : ℕ) → countedOf w ≡ C.Count n → (l : List Token) × ((w ≡ ok l) × (length l ≡ n))
+counted-is (ok l) n e = (l, (refl, cc))
+counted-is (bad k p) n e = let z : _≡_ {A = ℕ} 0 1 = cc in absurd (omega arith)
+
+pub walk-refused : (w : Walked) (lent : List ℕ) (r : Refusal) → countedOf w ≡ C.Refused r → Answered lent lent w (C.Refused r)
+walk-refused (ok l) lent r e = let z : _≡_ {A = ℕ} 0 1 = cc in absurd (omega arith)
+walk-refused (bad k p) lent r e =
+    let y : record { number = k; place = p } ≡ r = cc in
+    subst (λ (x : Refusal). Answered lent lent (bad k p) (C.Refused x)) y (unread k p refl)
+
+-- the front of a buffer is no longer than the buffer
+pub front-short : (n m : ℕ) (kinds : List ℕ) → length kinds ≤ m → length (take n kinds) ≤ m
+front-short n m kinds h = omega (arith, length-take n kinds)
+
+-- the kinds of a walk of n tokens stand at the front of a buffer
+module _ (w : Walked) (n : ℕ) (kinds : List ℕ) (c : countedOf w ≡ C.Count n) (k : (l : List Token) → w ≡ ok l → take (length l) kinds ≡ kindsOf l) where
+  noted : (l : List Token) × ((w ≡ ok l) × (take n kinds ≡ kindsOf l))
+  noted =
+      let y = counted-is w n c in
+      (y .0, (y .1 .0, subst (λ (m : ℕ). take m kinds ≡ kindsOf (y .0)) (y .1 .1) (k (y .0) (y .1 .0))))
+
+  pub in-buffer : n ≤ length kinds
+  in-buffer =
+      let y = counted-is w n c in
+      omega (arith, length-take n kinds, ap length (k (y .0) (y .1 .0)), length-take (length (y .0)) kinds, length-map (y .0) (λ (t : Token). t .kind), y .1 .1)
+
+  pub walk-read : (lent left : List ℕ) (r : Counted) → r ≡ judgedOf (outcome 64 begin 0 (take n kinds)) (length (take n kinds)) (length lent)
+      → left ≡ tableOf (outcome 64 begin 0 (take n kinds)) (wordsFrom 64 begin 0 (take n kinds)) lent → Answered lent left w r
+  walk-read lent left r e f =
+      let z = noted in
+      let q = z .1 .1 in
+      subst (λ (v : Walked). Answered lent left v r) (sym (z .1 .0))
+      (answered (z .0) lent left r
+      (e ∙ ap (λ (x : List ℕ). judgedOf (outcome 64 begin 0 x) (length x) (length lent)) q)
+      (f ∙ ap (λ (x : List ℕ). tableOf (outcome 64 begin 0 x) (wordsFrom 64 begin 0 x) lent) q))
+
+-- the answer and the table, computed
+abbrev pub answerOf : Walked → List ℕ → Counted
+answerOf (ok l) lent = judgedOf (outcome 64 begin 0 (kindsOf l)) (length (kindsOf l)) (length lent)
+answerOf (bad k p) lent = C.Refused (record { number = k; place = p })
+
+abbrev pub leftOf : Walked → List ℕ → List ℕ
+leftOf (ok l) lent = tableOf (outcome 64 begin 0 (kindsOf l)) (wordsFrom 64 begin 0 (kindsOf l)) lent
+leftOf (bad k p) lent = lent
+
+-- there is an answer for every walk and every table
+pub answer-holds : (w : Walked) (lent : List ℕ) → Answered lent (leftOf w lent) w (answerOf w lent)
+answer-holds (ok l) lent = answered l lent (leftOf (ok l) lent) (answerOf (ok l) lent) refl refl
+answer-holds (bad k p) lent = unread k p refl
+
+-- a stream that is not too long, from a start within it: the walk from there
+pub walk-within : (s : List ℕ) (start len : ℕ) (f : Flags) → length s ≤ 65536 → start ≤ length s → walkOf s start len f ≡ walkAt s (start + len) f start
+unfolding walkOf
+walk-within s start len f h k = rw (le-leb (length s) 65536 h, le-leb start (length s) k)
+
+-- one that is too long, and a start beyond its end
+pub too-long : (s : List ℕ) (start len : ℕ) (f : Flags) (lent : List ℕ) → 65536 < length s
+    → Answered lent lent (walkOf s start len f) (C.Refused (record { number = wrongLength; place = 0 }))
+unfolding walkOf
+too-long s start len f lent h = rw (lt-leb (length s) 65536 h) (unread wrongLength 0 refl)
+
+pub beyond : (s : List ℕ) (start len : ℕ) (f : Flags) (lent : List ℕ) → length s ≤ 65536 → length s < start
+    → Answered lent lent (walkOf s start len f) (C.Refused (record { number = pastEnd; place = start }))
+unfolding walkOf
+beyond s start len f lent h k = rw (le-leb (length s) 65536 h, lt-leb start (length s) k) (unread pastEnd start refl)

@@ -1,0 +1,57 @@
+-- A whole reading, as an answer and a table. Assumes nothing.
+use mathlib.Core.Path.{_≡_, sym, ap, _∙_}
+use mathlib.Core.List.{List, _++_}
+use Prim.Native.Nat.{ℕ, _+_, _≤_, _<_}
+use native.Mathlib.Nat.{zero-add}
+use native.Mathlib.Omega.{arith}
+use borrow.Author.Tests.{le-leb, lt-leb}
+use lib.ListN.{length, drop}
+use lib.Seq.{sets, sets-eq}
+use Rattle.cursor.specs.Refusals.{noRoom}
+use Rattle.cursor.specs.declared.Refusal.{Refusal}
+use Rattle.body.specs.Verdict.{deepest}
+use Rattle.body.specs.Reader.{begin, Out, accepted, outcome, wordsFrom, walk, refusedBy, wholeOf, judgedOf, tableOf}
+use Rattle.cursor.specs.declared.Counted.the-variants as C
+use Rattle.body.specs.declared.reader.Read.{Read}
+use Rattle.body.specs.declared.reader.Read.the-variants as R
+use Rattle.body.proofs.Agree.{words-length}
+
+left-is : (r : Read) (left : List ℕ) (o : Out) (l : List ℕ) → wholeOf r left ≡ (o, l) → left ≡ l
+left-is (R.Next j) left o l e = ap (λ (x : Out × List ℕ). x .1) e
+left-is (R.Refused r) left o l e = ap (λ (x : Out × List ℕ). x .1) e
+
+module _ (t : List ℕ) where
+  abbrev words : List ℕ
+  words = wordsFrom deepest begin 0 t
+
+  -- a whole reading answers as the walk does
+  module _ (r : Read) (left table : List ℕ) (e : wholeOf r left ≡ walk t begin 0 table) where
+    pub whole-accepted : (j : ℕ) → r ≡ R.Next j → outcome deepest begin 0 t ≡ accepted
+    unfolding walk
+    whole-accepted j h = sym (ap (λ (x : Out × List ℕ). x .0) (ap (λ (r : Read). wholeOf r left) (sym h) ∙ e))
+
+    pub whole-refused : (y : Refusal) → r ≡ R.Refused y → outcome deepest begin 0 t ≡ refusedBy y
+    unfolding walk
+    whole-refused y h = sym (ap (λ (x : Out × List ℕ). x .0) (ap (λ (r : Read). wholeOf r left) (sym h) ∙ e))
+
+    whole-table : left ≡ sets table 0 words
+    unfolding walk
+    whole-table = left-is r left (outcome deepest begin 0 t) (sets table 0 words) e
+
+    -- what is answered of a body, where the table has room
+    pub room : outcome deepest begin 0 t ≡ accepted → length t ≤ length table
+        → (C.Count (length t) ≡ judgedOf accepted (length t) (length table)) × (left ≡ tableOf accepted words table)
+    room a h =
+        let n = words-length deepest t begin 0 a in
+        let b : 0 + length words ≤ length table = omega (arith, n) in (
+          rw (le-leb (length t) (length table) h),
+          whole-table ∙ sets-eq words table 0 b ∙ ap (λ (k : ℕ). words ++ drop k table) (zero-add (length words))
+              ∙ rw (le-leb (length words) (length table) (omega (arith, n))),
+        )
+
+  -- and where it has none
+  pub no-room : (table : List ℕ) → outcome deepest begin 0 t ≡ accepted → length table < length t
+      → (C.Refused (record { number = noRoom; place = length t }) ≡ judgedOf accepted (length t) (length table)) × (table ≡ tableOf accepted words table)
+  no-room table a h =
+      let n = words-length deepest t begin 0 a in
+      (rw (lt-leb (length t) (length table) h), rw (lt-leb (length words) (length table) (omega (arith, n))))

@@ -1,0 +1,259 @@
+-- The walk over kinds, token by token: a law for each way on that the readers take. Assumes nothing.
+use mathlib.Core.Path.{_≡_, refl, sym, ap, subst, _∙_}
+use mathlib.Core.Bool.{Bool, true, false}
+use mathlib.Core.List.{List, [], _∷_}
+use Prim.Native.Nat.{ℕ, suc, _+_, _≤_, _<_}
+use native.Mathlib.Omega.{arith}
+use native.Mathlib.Numerals.{add-one}
+use native.Mathlib.Decide.{decLe}
+use borrow.Author.Tests.{lt-ltb, le-ltb, ltb-true, ltb-false, eq-eqb, ne-eqb}
+use lib.Dec.{eqb, ltb}
+use lib.ListN.{length, getD, set, drop, drop-of-length-le}
+use lib.Seq.{sets, drop-cons}
+use Rattle.cursor.specs.Answer.{pick}
+use Rattle.cursor.specs.Refusals.{noBody, tooDeep, unfinished}
+use Rattle.cursor.proofs.Choice.{either}
+use Rattle.tokens.specs.Token.{instanceKind, openKind, closeStartKind, closeEmptyKind, closeElementKind, attributeKind, piTargetKind, piDataKind, valueKind, entityRefKind, charRefKind, substitutionKind}
+use Rattle.body.specs.Verdict.{deepest}
+use Rattle.body.specs.Reader.{State, begin, tag, inside, target, Out, accepted, refused, Step, move, stop, isItem, isLeaf, opening, step, ended, outcome, wordsFrom, walk, further, tagFurther, resume, tagResume, onStep, opened, atEnd, wholeOf}
+use Rattle.body.specs.declared.reader.Read.{Read}
+use Rattle.body.specs.declared.reader.Read.the-variants as R
+use Rattle.body.specs.declared.reader.Tagged.{Tagged}
+use Rattle.body.specs.declared.reader.Tagged.the-variants as T
+
+-- what a step's answer makes of the rest
+on-step : (t : List ℕ) (n : ℕ) (table : List ℕ) (x : Step)
+    → _≡_ {A = Out × List ℕ}
+    (elim x [ move w s ↦ outcome deepest s (suc n) (drop (suc n) t) | stop o ↦ o ], sets table n (elim x [ move w s ↦ w ∷ wordsFrom deepest s (suc n) (drop (suc n) t) | stop o ↦ [] ]))
+    (onStep t n table x)
+unfolding walk
+on-step t n table (move w s) = refl
+on-step t n table (stop o) = refl
+
+-- an item and a leaf are of no other kind
+item-is-not : (k c : ℕ) → isItem c ≡ false → isItem k ≡ true → k ≡ c → ⊥
+item-is-not k c f h e =
+    let a : true ≡ false = sym h ∙ ap isItem e ∙ f in
+    let z : _≡_ {A = ℕ} 0 1 = cc in
+    omega arith
+
+leaf-is-not : (k c : ℕ) → isLeaf c ≡ false → isLeaf k ≡ true → k ≡ c → ⊥
+leaf-is-not k c f h e =
+    let a : true ≡ false = sym h ∙ ap isLeaf e ∙ f in
+    let z : _≡_ {A = ℕ} 0 1 = cc in
+    omega arith
+
+-- what kinds are items
+pub no-item : (k : ℕ) → (k ≡ valueKind → ⊥) → (k ≡ entityRefKind → ⊥) → (k ≡ charRefKind → ⊥) → (k ≡ substitutionKind → ⊥) → false ≡ isItem k
+no-item k v e c s = rw (ne-eqb k valueKind v, ne-eqb k substitutionKind s, ne-eqb k charRefKind c, ne-eqb k entityRefKind e)
+
+pub late-item : (k : ℕ) → charRefKind ≤ k → k ≤ substitutionKind → true ≡ isItem k
+late-item k l h =
+    elim (decLe k charRefKind) [
+      | yes u ↦ let e : charRefKind ≡ k = omega arith in ap isItem e
+      | no u ↦ let e : substitutionKind ≡ k = omega arith in ap isItem e
+    ]
+
+both : {A : Type 0} (b : Bool) (x : A) → pick b x x ≡ x
+both true x = refl
+both false x = refl
+
+module _ (t : List ℕ) (n : ℕ) (table : List ℕ) where
+  walk-step : (s : State) → n < length t → walk t s n table ≡ onStep t n table (step deepest s n (getD t n 0))
+  unfolding walk outcome wordsFrom
+  walk-step s h = rw (drop-cons t n 0 h) (on-step t n table (step deepest s n (getD t n 0)))
+
+  walk-ended : (s : State) → length t ≤ n → (ended s n, table) ≡ walk t s n table
+  unfolding walk outcome wordsFrom
+  walk-ended s h = rw (drop-of-length-le t h)
+
+  -- a token that moves on, and one that stops the walk
+  walk-on : (s s′ : State) (w : ℕ) (left : List ℕ) → n < length t → step deepest s n (getD t n 0) ≡ move w s′ → left ≡ set table n w
+      → walk t s′ (n + 1) left ≡ walk t s n table
+  walk-on s s′ w left h e l =
+      ap (walk t s′ (n + 1)) l ∙ ap (λ (m : ℕ). walk t s′ m (set table n w)) (add-one n)
+      ∙ sym (walk-step s h ∙ ap (onStep t n table) e)
+
+  walk-stop : (s : State) (o : Out) → n < length t → step deepest s n (getD t n 0) ≡ stop o → (o, table) ≡ walk t s n table
+  walk-stop s o h e = sym (walk-step s h ∙ ap (onStep t n table) e)
+
+  -- the end of the tokens in an open tag, in content, after a PI target, and before the first token
+  pub tag-ended : (a w : ℕ) (st : List ℕ) → length t ≤ n → (refused unfinished n, table) ≡ walk t (tag a w st) n table
+  unfolding ended
+  tag-ended a w st h = walk-ended (tag a w st) h
+
+  pub inside-ended : (w : ℕ) (st : List ℕ) → length t ≤ n → (refused unfinished n, table) ≡ walk t (inside (w ∷ st)) n table
+  unfolding ended
+  inside-ended w st h = walk-ended (inside (w ∷ st)) h
+
+  pub target-ended : (w : ℕ) (st : List ℕ) → length t ≤ n → (refused unfinished n, table) ≡ walk t (target w st) n table
+  unfolding ended
+  target-ended w st h = walk-ended (target w st) h
+
+  pub begin-ended : length t ≤ n → (refused unfinished n, table) ≡ walk t begin n table
+  unfolding ended
+  begin-ended h = walk-ended begin h
+
+  module _ (h : n < length t) where
+    -- in an open tag: an attribute, an item with and without one before it, the close tokens, and any other token
+    pub tag-attribute : (a w : ℕ) (st left : List ℕ) → getD t n 0 ≡ attributeKind → left ≡ set table n w
+        → walk t (tag (n + 1) w st) (n + 1) left ≡ walk t (tag a w st) n table
+    unfolding step
+    tag-attribute a w st left e l =
+        ap (λ (m : ℕ). walk t (tag m w st) (n + 1) left) (add-one n)
+        ∙ walk-on (tag a w st) (tag (suc n) w st) w left h (ap (step deepest (tag a w st) n) e) l
+
+    pub tag-item : (a w : ℕ) (st left : List ℕ) → isItem (getD t n 0) ≡ true → (a ≡ 0 → ⊥) → left ≡ set table n a
+        → walk t (tag a w st) (n + 1) left ≡ walk t (tag a w st) n table
+    unfolding step
+    tag-item a w st left e z l =
+        let k = getD t n 0 in
+        walk-on (tag a w st) (tag a w st) a left h
+        (rw (ne-eqb k attributeKind (item-is-not k attributeKind refl e), ne-eqb k closeEmptyKind (item-is-not k closeEmptyKind refl e), ne-eqb k closeStartKind (item-is-not k closeStartKind refl e), ne-eqb a 0 z, e)) l
+
+    pub tag-early : (a w : ℕ) (st : List ℕ) → isItem (getD t n 0) ≡ true → a ≡ 0 → (refused noBody n, table) ≡ walk t (tag a w st) n table
+    unfolding step
+    tag-early a w st e z =
+        let k = getD t n 0 in
+        walk-stop (tag a w st) (refused noBody n) h
+        (rw (ne-eqb k attributeKind (item-is-not k attributeKind refl e), ne-eqb k closeEmptyKind (item-is-not k closeEmptyKind refl e), ne-eqb k closeStartKind (item-is-not k closeStartKind refl e), eq-eqb a 0 z))
+
+    pub tag-empty : (a w : ℕ) (st left : List ℕ) → getD t n 0 ≡ closeEmptyKind → left ≡ set table n w
+        → walk t (inside st) (n + 1) left ≡ walk t (tag a w st) n table
+    unfolding step
+    tag-empty a w st left e l = walk-on (tag a w st) (inside st) w left h (ap (step deepest (tag a w st) n) e) l
+
+    pub tag-full : (a w : ℕ) (st left : List ℕ) → getD t n 0 ≡ closeStartKind → left ≡ set table n w
+        → walk t (inside (w ∷ st)) (n + 1) left ≡ walk t (tag a w st) n table
+    unfolding step
+    tag-full a w st left e l = walk-on (tag a w st) (inside (w ∷ st)) w left h (ap (step deepest (tag a w st) n) e) l
+
+    pub tag-other : (a w : ℕ) (st : List ℕ) → (getD t n 0 ≡ attributeKind → ⊥) → (getD t n 0 ≡ closeEmptyKind → ⊥) → (getD t n 0 ≡ closeStartKind → ⊥)
+        → isItem (getD t n 0) ≡ false → (refused noBody n, table) ≡ walk t (tag a w st) n table
+    unfolding step
+    tag-other a w st x y z e =
+        let k = getD t n 0 in
+        walk-stop (tag a w st) (refused noBody n) h
+        (rw (ne-eqb k attributeKind x, ne-eqb k closeEmptyKind y, ne-eqb k closeStartKind z, e) (both (eqb a 0) (stop (refused noBody n))))
+
+    -- in content: the close element token, an open token, a leaf, a PI target, and any other token
+    pub inside-close : (w : ℕ) (st left : List ℕ) → getD t n 0 ≡ closeElementKind → left ≡ set table n w
+        → walk t (inside st) (n + 1) left ≡ walk t (inside (w ∷ st)) n table
+    unfolding step
+    inside-close w st left e l = walk-on (inside (w ∷ st)) (inside st) w left h (ap (step deepest (inside (w ∷ st)) n) e) l
+
+    inside-open : (w : ℕ) (st : List ℕ) → getD t n 0 ≡ openKind → opened t n w (w ∷ st) table ≡ walk t (inside (w ∷ st)) n table
+    unfolding step
+    inside-open w st e = sym (walk-step (inside (w ∷ st)) h ∙ ap (λ (k : ℕ). onStep t n table (step deepest (inside (w ∷ st)) n k)) e)
+
+    -- an element's answer goes on from its open token
+    pub inside-child : (w : ℕ) (st left : List ℕ) (r r′ : Read) → getD t n 0 ≡ openKind → resume t (inside (w ∷ st)) r left ≡ opened t n w (w ∷ st) table → r ≡ r′
+        → resume t (inside (w ∷ st)) r′ left ≡ walk t (inside (w ∷ st)) n table
+    inside-child w st left r r′ k g e = subst (λ (r : Read). resume t (inside (w ∷ st)) r left ≡ walk t (inside (w ∷ st)) n table) e (g ∙ inside-open w st k)
+
+    pub inside-leaf : (w : ℕ) (st left : List ℕ) → isLeaf (getD t n 0) ≡ true → left ≡ set table n w
+        → walk t (inside (w ∷ st)) (n + 1) left ≡ walk t (inside (w ∷ st)) n table
+    unfolding step
+    inside-leaf w st left e l =
+        let k = getD t n 0 in
+        walk-on (inside (w ∷ st)) (inside (w ∷ st)) w left h
+        (rw (ne-eqb k closeElementKind (leaf-is-not k closeElementKind refl e), ne-eqb k openKind (leaf-is-not k openKind refl e), ne-eqb k piTargetKind (leaf-is-not k piTargetKind refl e), e)) l
+
+    pub inside-target : (w : ℕ) (st left : List ℕ) → getD t n 0 ≡ piTargetKind → left ≡ set table n w
+        → walk t (target w st) (n + 1) left ≡ walk t (inside (w ∷ st)) n table
+    unfolding step
+    inside-target w st left e l = walk-on (inside (w ∷ st)) (target w st) w left h (ap (step deepest (inside (w ∷ st)) n) e) l
+
+    pub inside-other : (w : ℕ) (st : List ℕ) → (getD t n 0 ≡ closeElementKind → ⊥) → (getD t n 0 ≡ openKind → ⊥) → (getD t n 0 ≡ piTargetKind → ⊥)
+        → isLeaf (getD t n 0) ≡ false → (refused noBody n, table) ≡ walk t (inside (w ∷ st)) n table
+    unfolding step
+    inside-other w st x y z e =
+        let k = getD t n 0 in
+        walk-stop (inside (w ∷ st)) (refused noBody n) h
+        (rw (ne-eqb k closeElementKind x, ne-eqb k openKind y, ne-eqb k piTargetKind z, e))
+
+    -- after a PI target
+    pub target-data : (w : ℕ) (st left : List ℕ) → getD t n 0 ≡ piDataKind → left ≡ set table n w
+        → walk t (inside (w ∷ st)) (n + 1) left ≡ walk t (target w st) n table
+    unfolding step
+    target-data w st left e l = walk-on (target w st) (inside (w ∷ st)) w left h (ap (step deepest (target w st) n) e) l
+
+    pub target-other : (w : ℕ) (st : List ℕ) → (getD t n 0 ≡ piDataKind → ⊥) → (refused noBody n, table) ≡ walk t (target w st) n table
+    unfolding step
+    target-other w st x = walk-stop (target w st) (refused noBody n) h (rw (ne-eqb (getD t n 0) piDataKind x))
+
+    -- the first token
+    pub begin-open : getD t n 0 ≡ openKind → opened t n 0 [] table ≡ walk t begin n table
+    unfolding step
+    begin-open e = sym (walk-step begin h ∙ ap (λ (k : ℕ). onStep t n table (step deepest begin n k)) e)
+
+    pub begin-instance : (left : List ℕ) → getD t n 0 ≡ instanceKind → left ≡ set table n 0 → walk t (inside []) (n + 1) left ≡ walk t begin n table
+    unfolding step
+    begin-instance left e l = walk-on begin (inside []) 0 left h (ap (step deepest begin n) e) l
+
+    pub begin-other : (getD t n 0 ≡ openKind → ⊥) → (getD t n 0 ≡ instanceKind → ⊥) → (refused noBody n, table) ≡ walk t begin n table
+    unfolding step
+    begin-other x y = walk-stop begin (refused noBody n) h (rw (ne-eqb (getD t n 0) openKind x, ne-eqb (getD t n 0) instanceKind y))
+
+  -- an open token, below the elements of the stack: one level more, or too deep
+  opened-on : (w : ℕ) (st left : List ℕ) → length st < deepest → left ≡ set table n w
+      → walk t (tag 0 (n + 1) st) (n + 1) left ≡ opened t n w st table
+  unfolding opening
+  opened-on w st left h l =
+      ap (λ (m : ℕ). walk t (tag 0 m st) m left) (add-one n) ∙ ap (walk t (tag 0 (suc n) st) (suc n)) l
+      ∙ rw (lt-ltb (length st) deepest h)
+
+  -- an open tag's answer goes on from the open token
+  pub opened-tag : (w : ℕ) (st mid left : List ℕ) (r r′ : Tagged) → length st < deepest → mid ≡ set table n w
+      → tagResume t (n + 1) st r left ≡ walk t (tag 0 (n + 1) st) (n + 1) mid → r ≡ r′ → tagResume t (n + 1) st r′ left ≡ opened t n w st table
+  opened-tag w st mid left r r′ h l g e = subst (λ (r : Tagged). tagResume t (n + 1) st r left ≡ opened t n w st table) e (g ∙ opened-on w st mid h l)
+
+  pub opened-deep : (w : ℕ) (st : List ℕ) → deepest ≤ length st → (refused tooDeep n, table) ≡ opened t n w st table
+  unfolding opening
+  opened-deep w st h = rw (le-ltb (length st) deepest h)
+
+  -- after the body
+  over-more : n < length t → (refused noBody n, table) ≡ walk t (inside []) n table
+  unfolding step
+  over-more h = walk-stop (inside []) (refused noBody n) h refl
+
+  over-ended : length t ≤ n → (accepted, table) ≡ walk t (inside []) n table
+  unfolding ended
+  over-ended h = walk-ended (inside []) h
+
+-- a PI target and its data
+pub instruction-read : (t : List ℕ) (n w : ℕ) (table mid left : List ℕ) (st : List ℕ) → n + 1 < length t → getD t n 0 ≡ piTargetKind → getD t (n + 1) 0 ≡ piDataKind
+    → mid ≡ set table n w → left ≡ set mid (n + 1) w → walk t (inside (w ∷ st)) (n + 2) left ≡ walk t (inside (w ∷ st)) n table
+instruction-read t n w table mid left st h e d m l =
+    let two : n + 2 ≡ n + 1 + 1 = omega arith in
+    ap (λ (i : ℕ). walk t (inside (w ∷ st)) i left) two
+    ∙ target-data t (n + 1) mid h w st left d l ∙ inside-target t n table (omega arith) w st mid e m
+
+-- nothing may follow the body
+pub at-end : (t left : List ℕ) (r : Read) → wholeOf (atEnd t r) left ≡ resume t (inside []) r left
+at-end t left (R.Next j) =
+    either (λ (r : Read). wholeOf r left ≡ walk t (inside []) j left) (ltb j (length t)) _ _
+    (λ e. over-more t j left (ltb-true j (length t) e))
+    (λ e. over-ended t j left (ltb-false j (length t) e))
+at-end t left (R.Refused r) = refl
+
+-- a leaf's answer, taken apart
+pub resumed : (t left : List ℕ) (x : Out × List ℕ) (s : State) (r r′ : Read) → resume t s r left ≡ x → r ≡ r′ → resume t s r′ left ≡ x
+resumed t left x s r r′ h e = subst (λ (r : Read). resume t s r left ≡ x) e h
+
+module _ (t : List ℕ) (at : ℕ) where
+  pub further-is : (r r′ : Read) → further t at r → r ≡ r′ → further t at r′
+  further-is r r′ h e = subst (further t at) e h
+
+  pub tag-further-is : (r r′ : Tagged) → tagFurther t at r → r ≡ r′ → tagFurther t at r′
+  tag-further-is r r′ h e = subst (tagFurther t at) e h
+
+  -- what is further than a later token is further than an earlier one
+  pub later : (i : ℕ) (r : Read) → at ≤ i → further t i r → further t at r
+  later i (R.Next j) l h = (omega (arith, h .0), h .1)
+  later i (R.Refused r) l h = h
+
+  pub tag-later : (i : ℕ) (r : Tagged) → at ≤ i → tagFurther t i r → tagFurther t at r
+  tag-later i (T.Empty j) l h = (omega (arith, h .0), h .1)
+  tag-later i (T.Full j) l h = (omega (arith, h .0), h .1)
+  tag-later i (T.Refused r) l h = h

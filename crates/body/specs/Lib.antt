@@ -1,0 +1,4 @@
+-- The definitions that the contracts of `body` cite.
+pub mod Grammar
+pub mod Verdict
+pub mod Reader

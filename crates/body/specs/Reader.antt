@@ -1,0 +1,166 @@
+-- The reader as a function on the kinds of tokens: what the private functions cite. What it is worth is shown against the grammar
+-- (proofs/Agree.antt, proofs/Refusing.antt); the public call's contract speaks of the grammar alone.
+use mathlib.Core.Path.{_≡_}
+use mathlib.Core.Bool.{Bool, true, false, _||_}
+use mathlib.Core.List.{List, [], _∷_}
+use Prim.Native.Nat.{ℕ, suc, _+_, _≤_, _<_}
+use lib.Dec.{eqb, leb, ltb}
+use lib.ListN.{length, take, drop, set}
+use lib.Seq.{sets}
+use Rattle.cursor.specs.Answer.{pick}
+use Rattle.cursor.specs.Lent.{laid}
+use Rattle.cursor.specs.Refusals.{noBody, tooDeep, unfinished, noRoom}
+use Rattle.cursor.specs.declared.Refusal.{Refusal}
+use Rattle.tokens.specs.Token.{instanceKind, openKind, closeStartKind, closeEmptyKind, closeElementKind, valueKind, attributeKind, entityRefKind, piTargetKind, piDataKind, cdataKind, charRefKind, substitutionKind}
+use Rattle.tokens.specs.Walk.{ok, walkAt}
+use Rattle.tokens.specs.declared.Flags.{Flags}
+use Rattle.tokens.specs.declared.Token.{Token}
+use Rattle.body.specs.Verdict.{deepest, kindsOf}
+use Rattle.cursor.specs.declared.Counted.{Counted}
+use Rattle.cursor.specs.declared.Counted.the-variants as C
+use Rattle.body.specs.declared.reader.Read.{Read}
+use Rattle.body.specs.declared.reader.Read.the-variants as R
+use Rattle.body.specs.declared.reader.Tagged.{Tagged}
+use Rattle.body.specs.declared.reader.Tagged.the-variants as T
+
+-- Where the reader stands. A stack has the word of each element that is open, the innermost first.
+-- begin: before the first token. tag: in an open tag, with the word of its last attribute (0 where there is none yet) and the element's own.
+-- inside: in content; where no element is open the body is over. target: after a PI target.
+pub data State : Type 0 where
+  begin : State
+  tag : ℕ → ℕ → List ℕ → State
+  inside : List ℕ → State
+  target : ℕ → List ℕ → State
+
+pub data Out : Type 0 where
+  accepted : Out
+  refused : ℕ → ℕ → Out
+
+-- a token's word and the state after it, or the answer
+pub data Step : Type 0 where
+  move : ℕ → State → Step
+  stop : Out → Step
+
+abbrev pub isItem : ℕ → Bool
+isItem k = eqb k valueKind || (eqb k substitutionKind || (eqb k charRefKind || eqb k entityRefKind))
+
+abbrev pub isLeaf : ℕ → Bool
+isLeaf k = eqb k cdataKind || isItem k
+
+-- an open token, with the word w, below the elements of the stack
+unfoldable pub opening : ℕ → ℕ → List ℕ → ℕ → Step
+opening limit w st n = pick (ltb (length st) limit) (move w (tag 0 (suc n) st)) (stop (refused tooDeep n))
+
+-- token n, of the kind k
+unfoldable pub step : ℕ → State → ℕ → ℕ → Step
+step limit begin n k =
+    pick (eqb k openKind) (opening limit 0 [] n)
+    (pick (eqb k instanceKind) (move 0 (inside []))
+    (stop (refused noBody n)))
+step limit (tag a w st) n k =
+    pick (eqb k attributeKind) (move w (tag (suc n) w st))
+    (pick (eqb k closeEmptyKind) (move w (inside st))
+    (pick (eqb k closeStartKind) (move w (inside (w ∷ st)))
+    (pick (eqb a 0) (stop (refused noBody n))
+    (pick (isItem k) (move a (tag a w st))
+    (stop (refused noBody n))))))
+step limit (inside []) n k = stop (refused noBody n)
+step limit (inside (w ∷ st)) n k =
+    pick (eqb k closeElementKind) (move w (inside st))
+    (pick (eqb k openKind) (opening limit w (w ∷ st) n)
+    (pick (eqb k piTargetKind) (move w (target w st))
+    (pick (isLeaf k) (move w (inside (w ∷ st)))
+    (stop (refused noBody n)))))
+step limit (target w st) n k = pick (eqb k piDataKind) (move w (inside (w ∷ st))) (stop (refused noBody n))
+
+-- the answer where the tokens end
+unfoldable pub ended : State → ℕ → Out
+ended begin n = refused unfinished n
+ended (tag a w st) n = refused unfinished n
+ended (inside []) n = accepted
+ended (inside (w ∷ st)) n = refused unfinished n
+ended (target w st) n = refused unfinished n
+
+-- from a state at token n on: the answer, and the words of the tokens that were read
+unfoldable pub outcome : ℕ → State → ℕ → List ℕ → Out
+outcome limit s n [] = ended s n
+outcome limit s n (k ∷ ks) = elim (step limit s n k) [ move w s′ ↦ outcome limit s′ (suc n) ks | stop o ↦ o ]
+
+unfoldable pub wordsFrom : ℕ → State → ℕ → List ℕ → List ℕ
+wordsFrom limit s n [] = []
+wordsFrom limit s n (k ∷ ks) = elim (step limit s n k) [ move w s′ ↦ w ∷ wordsFrom limit s′ (suc n) ks | stop o ↦ [] ]
+
+-- both, with the words put into a table where it has room
+unfoldable pub walk : List ℕ → State → ℕ → List ℕ → Out × List ℕ
+walk t s n table = (outcome deepest s n (drop n t), sets table n (wordsFrom deepest s n (drop n t)))
+
+abbrev pub refusedBy : Refusal → Out
+refusedBy r = refused (r .number) (r .place)
+
+-- a reader that goes on has read a token at least, and stays within the tokens
+abbrev pub further : List ℕ → ℕ → Read → Type 0
+further t at (R.Next j) = (at < j) × (j ≤ length t)
+further t at (R.Refused r) = Unit {0}
+
+abbrev pub tagFurther : List ℕ → ℕ → Tagged → Type 0
+tagFurther t at (T.Empty j) = (at < j) × (j ≤ length t)
+tagFurther t at (T.Full j) = (at < j) × (j ≤ length t)
+tagFurther t at (T.Refused r) = Unit {0}
+
+-- the whole answer, where a reader's answer leaves the state s behind it
+abbrev pub resume : List ℕ → State → Read → List ℕ → Out × List ℕ
+resume t s (R.Next j) table = walk t s j table
+resume t s (R.Refused r) table = (refusedBy r, table)
+
+abbrev pub tagResume : List ℕ → ℕ → List ℕ → Tagged → List ℕ → Out × List ℕ
+tagResume t me st (T.Empty j) table = walk t (inside st) j table
+tagResume t me st (T.Full j) table = walk t (inside (me ∷ st)) j table
+tagResume t me st (T.Refused r) table = (refusedBy r, table)
+
+-- the whole answer from an open token at `at` on
+abbrev pub onStep : List ℕ → ℕ → List ℕ → Step → Out × List ℕ
+onStep t at table (move w s) = walk t s (suc at) (set table at w)
+onStep t at table (stop o) = (o, table)
+
+abbrev pub opened : List ℕ → ℕ → ℕ → List ℕ → List ℕ → Out × List ℕ
+opened t at w st table = onStep t at table (opening deepest w st at)
+
+-- A reader's answer and table are those of the whole, whatever elements are open above it: the stack `st` has their words.
+abbrev pub ElementRead : List ℕ → ℕ → ℕ → ℕ → List ℕ → Read → List ℕ → Type 0
+ElementRead t at above w table r left = (st : List ℕ) → length st ≡ above → resume t (inside st) r left ≡ opened t at w st table
+
+abbrev pub ContentRead : List ℕ → ℕ → ℕ → ℕ → List ℕ → Read → List ℕ → Type 0
+ContentRead t at above me table r left = (st : List ℕ) → length st ≡ above → resume t (inside st) r left ≡ walk t (inside (me ∷ st)) at table
+
+abbrev pub LeafRead : List ℕ → ℕ → ℕ → List ℕ → Read → List ℕ → Type 0
+LeafRead t at me table r left = (st : List ℕ) → resume t (inside (me ∷ st)) r left ≡ walk t (inside (me ∷ st)) at table
+
+abbrev pub TagRead : List ℕ → ℕ → ℕ → ℕ → List ℕ → Tagged → List ℕ → Type 0
+TagRead t at last me table r left = (st : List ℕ) → tagResume t me st r left ≡ walk t (tag last me st) at table
+
+-- whatever attribute was the last
+abbrev pub TagEndRead : List ℕ → ℕ → ℕ → List ℕ → Tagged → List ℕ → Type 0
+TagEndRead t at me table r left = (last : ℕ) → TagRead t at last me table r left
+
+-- "A body is one" element: nothing follows it
+abbrev pub atEnd : List ℕ → Read → Read
+atEnd t (R.Next j) = pick (ltb j (length t)) (R.Refused (record { number = noBody; place = j })) (R.Next j)
+atEnd t (R.Refused r) = R.Refused r
+
+-- a whole body's answer
+abbrev pub wholeOf : Read → List ℕ → Out × List ℕ
+wholeOf (R.Next j) table = (accepted, table)
+wholeOf (R.Refused r) table = (refusedBy r, table)
+
+-- what is answered for the tokens and a lent table, and what the table holds then
+abbrev pub judgedOf : Out → ℕ → ℕ → Counted
+judgedOf accepted count room = pick (leb count room) (C.Count count) (C.Refused (record { number = noRoom; place = count }))
+judgedOf (refused k p) count room = C.Refused (record { number = k; place = p })
+
+abbrev pub tableOf : Out → List ℕ → List ℕ → List ℕ
+tableOf accepted words lent = pick (leb (length words) (length lent)) (laid words lent) lent
+tableOf (refused k p) words lent = lent
+
+-- the kinds of a walk's tokens stand at the front of a buffer
+abbrev pub Noted : List ℕ → ℕ → Flags → ℕ → List ℕ → Type 0
+Noted s end f start kinds = (l : List Token) → walkAt s end f start ≡ ok l → take (length l) kinds ≡ kindsOf l
