@@ -1,0 +1,2 @@
+-- The definitions that the contracts of `doortumble` cite.
+pub mod Calls

@@ -1,0 +1,71 @@
+// The C calls: a stream's sheet, its owner table, and the listing of a chunk. The C header is include/doortumble.h.
+//
+// Each takes bytes, numbers and lent words, and answers one packed word. No call keeps anything between calls.
+use cursor::Counted;
+use tokens::Flags;
+ghost use mathlib.Core.Path.{_≡_};
+ghost use Rattle.tokens.specs.Walk.{walkOf};
+ghost use Rattle.sheet.specs.Sheet.{sheetAnswer, sheetWords};
+ghost use Rattle.doortumble.specs.Calls.{flagOf, flagsOf, packedOf, OwnersPacked, ListPacked};
+
+// The sheet of a stream, a word a token.
+#[no_mangle]
+pub extern "C" fn doortumble_sheet(
+    stream: &[u8],
+    start: u32,
+    length: u32,
+    dependencies: u32,
+    inline: u32,
+    sheet: &mut [u64],
+) -> u64
+    ensures { λ r. ⌜ r ≡ packedOf (sheetAnswer (walkOf (now (stream .entry)) start length (flagsOf dependencies inline)) (now (sheet .entry))) ⌝ }
+    ensures { λ _. ⌜ now (sheet .exit) ≡ sheetWords (walkOf (now (stream .entry)) start length (flagsOf dependencies inline)) (now (sheet .entry)) ⌝ }
+{
+    packed(sheet::fill(stream, start, length, flags(dependencies, inline), sheet))
+}
+
+// The owner table of a stream that is an event body, a word a token.
+#[no_mangle]
+pub extern "C" fn doortumble_owners(
+    stream: &[u8],
+    start: u32,
+    length: u32,
+    dependencies: u32,
+    inline: u32,
+    table: &mut [u32],
+) -> u64
+    ensures { λ r. ⌜ OwnersPacked (walkOf (now (stream .entry)) start length (flagsOf dependencies inline)) (now (table .entry)) (now (table .exit)) r ⌝ }
+{
+    packed(body::owners(stream, start, length, flags(dependencies, inline), table))
+}
+
+// The whole walk of a chunk, five words an answer.
+#[no_mangle]
+pub extern "C" fn doortumble_list(chunk: &[u8], recovery: u32, rows: &mut [u64]) -> u64
+    ensures { λ r. ⌜ ListPacked (now (chunk .entry)) (flagOf recovery) (now (rows .entry)) (now (rows .exit)) r ⌝ }
+{
+    packed(chunk::list(chunk, recovery != 0, rows))
+}
+
+fn flags(dependencies: u32, inline: u32) -> Flags
+    ensures { λ r. ⌜ r ≡ flagsOf dependencies inline ⌝ }
+{
+    Flags {
+        dependencies: dependencies != 0,
+        inline: inline != 0,
+    }
+}
+
+// The answer word: each field in its own bits.
+fn packed(c: Counted) -> u64
+    ensures { λ r. ⌜ r ≡ packedOf c ⌝ }
+{
+    match c {
+        Counted::Count(n) => (n % 0x100_0000_0000) as u64,
+        Counted::Refused(r) => {
+            0x8000_0000_0000_0000
+                + (r.number % 0x80) as u64 * 0x100_0000_0000_0000
+                + (r.place % 0x100_0000_0000) as u64
+        }
+    }
+}

@@ -1,0 +1,303 @@
+// doortumble.h: read Windows event logs from C (C99 or later) or C++.
+//
+// Three calls over what the caller lends:
+//
+//   doortumble_list     the records of a chunk, five words a row
+//   doortumble_sheet    the tokens of a record's stream, a word a token
+//   doortumble_owners   which token each token belongs to, where the stream is one event body
+//
+// To read a record of a chunk, hand its row to doortumble_owners and doortumble_sheet like this: the stream is the WHOLE chunk,
+// since names are offsets in the chunk; start and length are doortumble_payload_start and doortumble_payload_length of the row;
+// both flags are 0, since the open tokens of a record carry no dependency and its names are not inline.
+// examples/records.c does just that.
+//
+// Of every call:
+//   - It takes every input. What cannot be read is refused with a number and a place; doortumble_why says it in words.
+//   - A refusal leaves the lent words as they were. Without a refusal, the words past the count stay as they were.
+//   - It keeps nothing when it returns, allocates nothing, and needs at most 1 MiB of stack. Calls may run side by side.
+//   - A null pointer with length 0 is allowed, for bytes and for words. Any other pointer must be good for its whole length.
+//   - The lent words must not overlap the bytes, and nobody may change either while the call runs.
+//
+// Link with target/staticlib/libdoortumble.a, which `rt staticlib doortumble` writes.
+#ifndef DOORTUMBLE_H
+#define DOORTUMBLE_H
+
+#include <stddef.h>
+#include <stdint.h>
+
+#ifdef __cplusplus
+extern "C" {
+#endif
+
+// ---------------------------------------------------------------------------------------------------------------- sizes
+
+#define DOORTUMBLE_CHUNK_BYTES 65536  // a chunk has exactly these; a stream has no more
+#define DOORTUMBLE_ROW_WORDS 5        // words in a row of a listing
+#define DOORTUMBLE_MOST_ROWS 4645     // no chunk has more rows
+#define DOORTUMBLE_MOST_TOKENS 65536  // no stream has more tokens: each is a byte at least
+
+// ------------------------------------------------------------------------------------------------------------- refusals
+
+// What a refusal's number means, and what its place is then.
+enum {
+    DOORTUMBLE_WRONG_LENGTH = 1,    // chunk not 65,536 bytes, or stream longer than that; place: 0
+    DOORTUMBLE_PAST_END = 2,        // position set past the stream's end; place: that position
+    DOORTUMBLE_TOO_FEW_BYTES = 3,   // too few bytes for a read; place: where the read starts (a record: its offset)
+    DOORTUMBLE_WRONG_MAGIC = 4,     // chunk or record magic wrong; place: the header's offset
+    DOORTUMBLE_SMALL_RECORD = 5,    // record size below 28; place: the record's offset
+    DOORTUMBLE_LATE_FILETIME = 6,   // FILETIME above 2,650,466,808,009,999,999; place: the record's offset
+    DOORTUMBLE_UNKNOWN_TYPE = 7,    // type code unknown; place: after the code
+    DOORTUMBLE_TYPE_NOT_READ = 8,   // type known, not read here; place: the value's start
+    DOORTUMBLE_UNKNOWN_TOKEN = 9,   // token byte unknown; place: after the byte
+    DOORTUMBLE_UNEVEN_ARRAY = 10,   // array size no multiple of its element; place: the value's start
+    DOORTUMBLE_NAME_NOT_ENDED = 11, // inline name without final zero unit; place: the name's start
+    DOORTUMBLE_NAME_HASH = 12,      // inline name hash wrong; place: the name's start
+    DOORTUMBLE_NO_BODY = 13,        // no body begins with the tokens through this one; place: token number
+    DOORTUMBLE_TOO_DEEP = 14,       // opens level 65; place: token number
+    DOORTUMBLE_UNFINISHED = 15,     // body unfinished; place: count of tokens
+    DOORTUMBLE_NO_ROOM = 16,        // lent words too few; place: words needed
+    DOORTUMBLE_SIZE_COPY = 17       // a record's size copy differs; place: the record's offset (no call here answers it)
+};
+
+// Why, in words, for the person who has to act on it.
+static inline const char *doortumble_why(unsigned number)
+{
+    switch (number) {
+    case DOORTUMBLE_WRONG_LENGTH:
+        return "this is no chunk, which has 65,536 bytes, or it is a stream longer than that";
+    case DOORTUMBLE_PAST_END:
+        return "a position was set past the end: the input is cut, or a length or an offset in it is wrong";
+    case DOORTUMBLE_TOO_FEW_BYTES:
+        return "the input ends in the middle of a field";
+    case DOORTUMBLE_WRONG_MAGIC:
+        return "the bytes that every chunk or record begins with are not there: it was overwritten, or never was one";
+    case DOORTUMBLE_SMALL_RECORD:
+        return "the record says that it is shorter than its own header: the header is damaged";
+    case DOORTUMBLE_LATE_FILETIME:
+        return "the record's time lies past the year 9999: its header is damaged";
+    case DOORTUMBLE_UNKNOWN_TYPE:
+        return "a value's type code is not one that exists";
+    case DOORTUMBLE_TYPE_NOT_READ:
+        return "a value's type exists but cannot stand here";
+    case DOORTUMBLE_UNKNOWN_TOKEN:
+        return "a byte where a token should begin is no token: the stream is damaged, or read from the wrong place";
+    case DOORTUMBLE_UNEVEN_ARRAY:
+        return "an array's size is no multiple of its element's";
+    case DOORTUMBLE_NAME_NOT_ENDED:
+        return "an inline name does not end in a zero unit";
+    case DOORTUMBLE_NAME_HASH:
+        return "an inline name and its hash disagree: one of the two is damaged";
+    case DOORTUMBLE_NO_BODY:
+        return "this token cannot stand here: no event body begins like this, whatever follows";
+    case DOORTUMBLE_TOO_DEEP:
+        return "this token opens an element at level 65, and only 64 levels are read";
+    case DOORTUMBLE_UNFINISHED:
+        return "the tokens end before the event body does: its rest is missing";
+    case DOORTUMBLE_NO_ROOM:
+        return "the words lent are too few: lend as many as the place says";
+    case DOORTUMBLE_SIZE_COPY:
+        return "a record's two sizes disagree: its end was overwritten";
+    default:
+        return "there is no such refusal: this header does not belong to the library that was linked";
+    }
+}
+
+// What the place of a refusal counts, in a word: "offset" (bytes from the start of the chunk or stream), "token" (a token's
+// number, from 0), "tokens" (how many there are) or "words" (how many are needed).
+static inline const char *doortumble_place_is(unsigned number)
+{
+    switch (number) {
+    case DOORTUMBLE_NO_BODY:
+    case DOORTUMBLE_TOO_DEEP:
+        return "token";
+    case DOORTUMBLE_UNFINISHED:
+        return "tokens";
+    case DOORTUMBLE_NO_ROOM:
+        return "words";
+    default:
+        return "offset";
+    }
+}
+
+// ------------------------------------------------------------------------------------------------------------ an answer
+
+// Every call answers one word, most significant bit first: refused 1 bit, number 7, 16 zeros, place or count 40.
+
+// Not 0 where the call refused.
+static inline int doortumble_refused(uint64_t answer)
+{
+    return (answer >> 63) != 0;
+}
+
+// The refusal's number; 0 where the call did not refuse.
+static inline unsigned doortumble_number(uint64_t answer)
+{
+    return (answer >> 56) & 0x7F;
+}
+
+// The refusal's place. Only where the call refused.
+static inline uint64_t doortumble_place(uint64_t answer)
+{
+    return answer & 0xFFFFFFFFFF;
+}
+
+// How many rows or tokens there are. Only where the call did not refuse.
+static inline uint64_t doortumble_count(uint64_t answer)
+{
+    return answer & 0xFFFFFFFFFF;
+}
+
+// ------------------------------------------------------------------------------------------------------------- the list
+
+// List a chunk: walk its records from the first to the last and, with recovery, look for old ones where no live one stands.
+//
+//   chunk, chunk_len   the bytes of one chunk, 65,536 of them (a log file is a header of 4,096 bytes and then chunks)
+//   recovery           not 0: carve old records too; 0: do not
+//   rows, rows_len     lent for the rows, and their length in words; DOORTUMBLE_MOST_ROWS * DOORTUMBLE_ROW_WORDS is always
+//                      enough
+//
+// Answer: how many rows were written, or a refusal: 1 or 4 where this is no chunk, then 16 where the rows are too short (its
+// place is the words needed, so a call with 0 words asks for them). A record that cannot be read is no refusal of the call: it
+// has a row of its own, and the walk goes on at the next live record that it can find.
+//
+// A refusal leaves the rows as they were; words past the last row stay. Nothing is kept or allocated, at most 1 MiB of stack is
+// needed, and a null pointer with length 0 is allowed.
+uint64_t doortumble_list(const uint8_t *chunk, size_t chunk_len, uint32_t recovery, uint64_t *rows, size_t rows_len);
+
+// What a row is about.
+enum {
+    DOORTUMBLE_ROW_LIVE = 1,   // a record that belongs to the chunk
+    DOORTUMBLE_ROW_CARVED = 2, // an old record, found where no live one stands
+    DOORTUMBLE_ROW_REFUSED = 3 // a record that cannot be read
+};
+
+typedef struct doortumble_row {
+    uint64_t item;     // 1 to 3, see above
+    uint64_t offset;   // of the record in the chunk; refused: the refusal's place
+    uint64_t size;     // of the record in bytes; refused: the refusal's number
+    uint64_t id;       // of the record; refused: 0
+    uint64_t filetime; // of the record, in steps of 100 ns from the year 1601; refused: 0
+} doortumble_row;
+
+// Row n, counted from 0, of the rows that doortumble_list wrote.
+static inline doortumble_row doortumble_row_at(const uint64_t *rows, uint64_t n)
+{
+    const uint64_t *words = rows + n * DOORTUMBLE_ROW_WORDS;
+    doortumble_row row;
+
+    row.item = words[0];
+    row.offset = words[1];
+    row.size = words[2];
+    row.id = words[3];
+    row.filetime = words[4];
+    return row;
+}
+
+// Where the stream of a live or carved record starts in its chunk: after the record's header, which has 24 bytes.
+static inline uint32_t doortumble_payload_start(doortumble_row row)
+{
+    return (row.offset + 24) & 0xFFFFFFFF;
+}
+
+// How long it is: the record less its header and the copy of its size, which has 4 bytes. A refused row has none: 0.
+static inline uint32_t doortumble_payload_length(doortumble_row row)
+{
+    return row.size < 28 ? 0 : (row.size - 28) & 0xFFFFFFFF;
+}
+
+// ------------------------------------------------------------------------------------------------------------ the sheet
+
+// Read the tokens of a stream, whether or not they form an event body.
+//
+//   stream, stream_len   the bytes that offsets count in, at most 65,536: for a record its whole chunk
+//   start, length        where in the stream the first token is, and for how many bytes on a token may begin. The last token
+//                        may run over, though never past the stream: an instance whose place plus length is more than start
+//                        plus length has taken bytes for its own that stand behind the record
+//   dependencies         not 0: open tokens carry a dependency, as in a template's definition; 0: they do not, as in a record
+//   inline_names         not 0: names stand in the stream itself; 0: names are offsets, as in a chunk
+//   sheet, sheet_len     lent for the sheet, and its length in words; DOORTUMBLE_MOST_TOKENS is always enough
+//
+// Answer: how many tokens there are, with a word for each in the sheet, or a refusal: 1, then the first that the walk meets (2,
+// 3, 7 to 12), then 16 where the sheet is too short (its place is the words needed, so a call with 0 words asks for them).
+//
+// A refusal leaves the sheet as it was; words past the last token's stay. Nothing is kept or allocated, at most 1 MiB of stack
+// is needed, and a null pointer with length 0 is allowed.
+uint64_t doortumble_sheet(const uint8_t *stream, size_t stream_len, uint32_t start, uint32_t length,
+                          uint32_t dependencies, uint32_t inline_names, uint64_t *sheet, size_t sheet_len);
+
+// The kinds of tokens, with their bytes in the stream.
+enum {
+    DOORTUMBLE_KIND_INSTANCE = 1,      // 0C: a template with its values
+    DOORTUMBLE_KIND_OPEN = 2,          // 01, 41: an element's start tag begins
+    DOORTUMBLE_KIND_CLOSE_START = 3,   // 02: the start tag ends, content follows
+    DOORTUMBLE_KIND_CLOSE_EMPTY = 4,   // 03: the start tag ends, and the element with it
+    DOORTUMBLE_KIND_CLOSE_ELEMENT = 5, // 04: the element ends
+    DOORTUMBLE_KIND_VALUE = 6,         // 05, 45
+    DOORTUMBLE_KIND_ATTRIBUTE = 7,     // 06, 46: an attribute's name; what follows it is its value
+    DOORTUMBLE_KIND_ENTITY_REF = 8,    // 09, 49
+    DOORTUMBLE_KIND_PI_TARGET = 9,     // 0A
+    DOORTUMBLE_KIND_PI_DATA = 10,      // 0B
+    DOORTUMBLE_KIND_CDATA = 11,        // 07, 47
+    DOORTUMBLE_KIND_CHAR_REF = 12,     // 08, 48
+    DOORTUMBLE_KIND_SUBSTITUTION = 13  // 0D, 0E: a place for one of an instance's values
+};
+
+// A sheet's word, most significant bit first: kind 4 bits, place 17, length 17, number 16, flag 1, 9 zeros.
+typedef struct doortumble_token {
+    unsigned kind;   // 1 to 13, see above
+    uint32_t place;  // offset of the token's byte in the stream
+    uint32_t length; // bytes from there to where the next read begins
+    unsigned number; // open: its dependency; char ref: the char; substitution: the value's number; else 0
+    unsigned flag;   // open: 1 where it has a dependency (0 is one too); substitution: 1 where it is optional; else 0
+} doortumble_token;
+
+static inline doortumble_token doortumble_token_of(uint64_t word)
+{
+    doortumble_token token;
+
+    token.kind = (unsigned)(word >> 60);
+    token.place = (word >> 43) & 0x1FFFF;
+    token.length = (word >> 26) & 0x1FFFF;
+    token.number = (word >> 10) & 0xFFFF;
+    token.flag = (word >> 9) & 1;
+    return token;
+}
+
+// ------------------------------------------------------------------------------------------------------------ the owners
+
+// Read a stream as one event body, and tell of each token which token it belongs to. The tokens are those of the sheet, in the
+// same order.
+//
+//   stream to inline_names   as for doortumble_sheet
+//   table, table_len         lent for the owner table, and its length in words; DOORTUMBLE_MOST_TOKENS is always enough
+//
+// Answer: how many tokens there are, with a word for each in the table, or a refusal: those of doortumble_sheet, and before 16
+// also 13, 14 or 15 where the tokens are no event body. 16 comes last: a stream that is refused otherwise is refused so for any
+// table, a null one too.
+//
+// A refusal leaves the table as it was; words past the last token's stay. Nothing is kept or allocated, at most 1 MiB of stack
+// is needed, and a null pointer with length 0 is allowed.
+uint64_t doortumble_owners(const uint8_t *stream, size_t stream_len, uint32_t start, uint32_t length,
+                           uint32_t dependencies, uint32_t inline_names, uint32_t *table, size_t table_len);
+
+// A table's word is the owner's number plus 1, or 0 where the token has no owner: the root's open token, or the instance. What
+// stands in an attribute belongs to the attribute's token; all else in an element, its close tokens too, to its open token. An
+// owner's number is always less than the number of what it owns.
+
+// Not 0 where the token has an owner.
+static inline int doortumble_has_owner(uint32_t word)
+{
+    return word != 0;
+}
+
+// The owner's number. Only where there is one.
+static inline uint32_t doortumble_owner(uint32_t word)
+{
+    return word - 1;
+}
+
+#ifdef __cplusplus
+}
+#endif
+
+#endif
