@@ -1,15 +1,18 @@
 // Answers a batch of cases: cases come on standard input, their answers go to standard output. Each mode has a file of its own; this one
 // reads the cases and finds the mode. No rule of the format stands in this program: it reads, asks the libraries, and prints.
+mod calls;
 mod content;
 mod header;
 mod item;
 mod one_record;
+mod owners;
 mod print;
 mod single;
 mod step;
 mod token;
 mod walk;
 
+use calls::Asked;
 use cursor::Part;
 use libc::STDIN_FILENO;
 use tokens::Flags;
@@ -117,6 +120,8 @@ fn least_data(mode: u8) -> usize {
         b'P' => step::STATE,
         b'T' => 0,
         b'S' => 0,
+        b'O' => 0,
+        b'C' => calls::ROOM,
         _ => MOST_DATA + 1,
     }
 }
@@ -139,8 +144,30 @@ fn answer(out: &mut [u8], at: usize, case: Case, bytes: &[u8]) -> usize {
             walk_flags(case.flags),
         ),
         b'S' => single::answer(out, at, bytes, case.start as usize),
+        b'O' => owners::answer(
+            out,
+            at,
+            bytes,
+            case.start,
+            case.length,
+            walk_flags(case.flags),
+        ),
+        b'C' => called(out, at, case, bytes),
         _ => at,
     }
+}
+
+// A C call: flag 4, the owner table's; else the sheet's.
+fn called(out: &mut [u8], at: usize, case: Case, bytes: &[u8]) -> usize {
+    let asked = Asked {
+        start: case.start,
+        length: case.length,
+        flags: walk_flags(case.flags),
+    };
+    if case.flags / 4 % 2 == 1 {
+        return calls::owners(out, at, bytes, asked);
+    }
+    calls::sheet(out, at, bytes, asked)
 }
 
 // How a token stream is read: flag 1, dependencies carried; flag 2, names inline.

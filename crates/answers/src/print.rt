@@ -55,6 +55,19 @@ pub fn two_digits(out: &mut [u8], at: usize, b: u8) -> usize {
     byte(out, after, digit(b))
 }
 
+// A word in eight digits, and one in sixteen.
+pub fn half(out: &mut [u8], at: usize, n: u32) -> usize {
+    let a = two_digits(out, at, (n / 0x100_0000) as u8);
+    let b = two_digits(out, a, (n / 0x1_0000 % 0x100) as u8);
+    let c = two_digits(out, b, (n / 0x100 % 0x100) as u8);
+    two_digits(out, c, (n % 0x100) as u8)
+}
+
+pub fn word(out: &mut [u8], at: usize, n: u64) -> usize {
+    let a = half(out, at, (n / 0x1_0000_0000) as u32);
+    half(out, a, (n % 0x1_0000_0000) as u32)
+}
+
 // Bytes in hexadecimal; a dash where there are none.
 pub fn hex(out: &mut [u8], at: usize, bytes: &[u8]) -> usize {
     if bytes.len() == 0 {

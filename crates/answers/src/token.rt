@@ -1,9 +1,9 @@
 // Mode T: the tokens of a stream, one a line, then how many they are, or the refusal that ends them.
 use crate::content;
 use crate::print;
+use cursor::Counted;
 use cursor::Cursor;
 use cursor::Refusal;
-use tokens::Counted;
 use tokens::Flags;
 use tokens::Held;
 use tokens::Instance;
@@ -136,12 +136,7 @@ fn instance(out: &mut [u8], at: usize, i: Instance, s: &[u8]) -> usize {
     let g = i.guid;
     let c = field(out, b, g.of(s));
     let d = print::number(out, c, i.count as u64);
-    let v = Values {
-        table: i.table,
-        left: i.count,
-        at: i.values,
-    };
-    values(out, d, v, s)
+    values(out, d, Values::of(i), s)
 }
 
 fn values(out: &mut [u8], at: usize, first: Values, s: &[u8]) -> usize {

@@ -8,5 +8,7 @@ pub mod OfRecord
 pub mod OfChunk
 pub mod OfTokens
 pub mod OfSheet
+pub mod OfBody
+pub mod OfDoortumble
 pub mod Resume
 pub mod Samples

@@ -8,6 +8,8 @@ use Rattle.tokens.proofs.step.Kinds as stepK
 use Rattle.tokens.proofs.step.Reads as stepR
 use Rattle.tokens.proofs.count.Kinds as countK
 use Rattle.tokens.proofs.count.Reads as countR
+use Rattle.tokens.proofs.Values.of.Kinds as ofK
+use Rattle.tokens.proofs.Values.of.Reads as ofR
 use Rattle.tokens.proofs.Values.next.Kinds as nextK
 use Rattle.tokens.proofs.Values.next.Reads as nextR
 use Rattle.tokens.proofs.single_instance_offset.Kinds as singleK
@@ -36,6 +38,9 @@ step κs a x y s t p q = step-one x y _ p q
 
 pub count : Single 1 countK.ps countK.r countR.Post
 count κs a x y s t p q = p ∙ sym q
+
+pub of : Single 0 ofK.ps ofK.r ofR.Post
+of κs a x y s t p q = p ∙ sym q
 
 pub next : Single 1 nextK.ps nextK.r nextR.Post
 next κs a x y s t p q = p ∙ sym q

@@ -1,0 +1,31 @@
+-- `doortumble`: each C call allows one answer word and one content of the lent words. Assumes nothing.
+use mathlib.Core.Path.{_≡_, sym, ap, _∙_}
+use contract.Lifetimes.{Lfts}
+use borrow.Fn.Kinds.{Dens, resT, endedOf}
+use denote.Triple.Clauses.{AtExit}
+use Rattle.record.specs.Chunk.{fieldsAt}
+use Rattle.body.proofs.One.{one-answer}
+use Rattle.doortumble.specs.Calls.{packedOf}
+use Rattle.doortumble.proofs.doortumble_sheet.Kinds as sheetK
+use Rattle.doortumble.proofs.doortumble_sheet.Reads as sheetR
+use Rattle.doortumble.proofs.doortumble_owners.Kinds as ownersK
+use Rattle.doortumble.proofs.doortumble_owners.Reads as ownersR
+use Rattle.doortumble.proofs.doortumble_list.Kinds as listK
+use Rattle.doortumble.proofs.doortumble_list.Reads as listR
+use Rattle.promises.proofs.OfChunk.{lists-by}
+
+pub sheet : (κs : Lfts 2) (a : Dens κs sheetK.ps) (x y : resT sheetK.r κs .Denot) (s t : AtExit (endedOf 2 sheetK.ps sheetK.r) κs)
+    → sheetR.Post κs a x s → sheetR.Post κs a y t → (x ≡ y) × (s .1 .1 .1 .1 .1 .0 .now ≡ t .1 .1 .1 .1 .1 .0 .now)
+sheet κs a x y s t p q = (p .0 ∙ sym (q .0), p .1 ∙ sym (q .1))
+
+pub owners : (κs : Lfts 2) (a : Dens κs ownersK.ps) (x y : resT ownersK.r κs .Denot) (s t : AtExit (endedOf 2 ownersK.ps ownersK.r) κs)
+    → ownersR.Post κs a x s → ownersR.Post κs a y t → (x ≡ y) × (s .1 .1 .1 .1 .1 .0 .now ≡ t .1 .1 .1 .1 .1 .0 .now)
+owners κs a x y s t p q =
+    let e = one-answer _ _ _ (p .1 .1) (q .1 .1) in
+    (p .1 .0 ∙ ap packedOf (e .0) ∙ sym (q .1 .0), e .1)
+
+pub list : (κs : Lfts 2) (a : Dens κs listK.ps) (x y : resT listK.r κs .Denot) (s t : AtExit (endedOf 2 listK.ps listK.r) κs)
+    → listR.Post κs a x s → listR.Post κs a y t → (x ≡ y) × (s .1 .1 .0 .now ≡ t .1 .1 .0 .now)
+list κs a x y s t p q =
+    let e = lists-by _ _ _ _ _ (p .0) (q .0) (fieldsAt _) (p .1 .1) (q .1 .1) in
+    (p .1 .0 ∙ ap packedOf (e .0) ∙ sym (q .1 .0), e .1)
