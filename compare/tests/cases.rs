@@ -1,4 +1,5 @@
-//! The made token cases reach every kind of token and every refusal of a walk, and each is answered.
+//! The made token cases reach every kind of token and every refusal of a walk, those of bodies also every refusal of the
+//! grammar and of lent words, and each is answered.
 
 use compare::cases;
 use compare::oracle::batch;
@@ -47,6 +48,56 @@ fn made_token_cases() {
     reaches_all(&answers);
 }
 
+/// The numbers of refusals in the answers of mode O, and in those of mode C.
+fn reached_by_bodies(answers: &str) -> (BTreeSet<u8>, BTreeSet<u8>) {
+    let (_, tables) = reached(answers);
+    let words = answers.lines().filter_map(|line| {
+        let word = u64::from_str_radix(line.strip_prefix("answer ")?, 16).expect("a word");
+        (word >> 63 == 1).then_some((word >> 56) as u8 & 0x7f)
+    });
+    (tables, words.collect())
+}
+
+#[test]
+fn made_body_cases() {
+    const COUNT: usize = 100_000;
+    let answers = answers("body", 1, COUNT);
+    assert_eq!(answers.lines().filter(|line| *line == ".").count(), COUNT);
+    let count = |word: &str| {
+        answers
+            .lines()
+            .filter(|line| line.starts_with(word))
+            .count()
+    };
+    assert!(count("owners ") > COUNT / 10 && count("answer 0") > COUNT / 10);
+    let (tables, words) = reached_by_bodies(&answers);
+    for number in [1, 2, 3, 7, 8, 9, 10, 11, 12, 13, 14, 15] {
+        assert!(tables.contains(&number), "no refusal {number} in mode O");
+        assert!(words.contains(&number), "no refusal {number} in mode C");
+    }
+    assert!(words.contains(&16));
+}
+
+/// All lists of up to six tokens, and each is answered.
+#[test]
+fn short_lists() {
+    let answers = answers("lists", 0, usize::MAX);
+    let count = |word: &str| {
+        answers
+            .lines()
+            .filter(|line| line.starts_with(word))
+            .count()
+    };
+    let lists = 13_usize.pow(4) + 13_usize.pow(3) + 13 * 13 + 13 + 1 + 100_000 + 1_000_000;
+    let fragments = 13_usize.pow(3) + 13 * 13 + 13 + 1;
+    assert_eq!(count("owners") + count("refused "), lists + fragments);
+    // So many compare/run asks for.
+    assert_eq!(count("."), 1_134_755);
+    let (tables, words) = reached_by_bodies(&answers);
+    assert_eq!(tables, BTreeSet::from([13, 15]));
+    assert_eq!(words, BTreeSet::from([13, 15, 16]));
+}
+
 #[test]
 fn stored_cases() {
     let answers = answers("stored", 0, usize::MAX);
@@ -56,5 +107,11 @@ fn stored_cases() {
         .expect("a kind")
         .map(|case| case.bytes().len())
         .sum();
-    assert!(size < 700 * 1024, "the stored batch has {size} bytes");
+    assert!(size < 800 * 1024, "the stored batch has {size} bytes");
+    let (tables, words) = reached_by_bodies(&answers);
+    for number in [2, 3, 7, 8, 9, 10, 11, 12, 13, 14, 15] {
+        assert!(tables.contains(&number), "no refusal {number} in mode O");
+        assert!(words.contains(&number), "no refusal {number} in mode C");
+    }
+    assert!(words.contains(&16));
 }

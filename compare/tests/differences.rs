@@ -83,6 +83,32 @@ fn row_5_unsized_body() {
     assert_eq!(walk("05 21 0000"), "0 4 6 21:-:2:4:b-\nok 1\ndiffers 5\n");
 }
 
+/// The owner table and the sheet of these rows: the marks say that the token has no line of its own.
+#[test]
+fn unlisted_rows() {
+    let owners = |text: &str| {
+        let data = hex(text);
+        one(case(b'O', 0, 0, data.len() as u32, &data))
+    };
+    let value = |text: &str| format!("0C 00 00000000 00000000 01000000 {text}");
+    // Document: one instance, that is owners 0.
+    let odd = owners(&value("0100 01 00 00"));
+    assert_eq!(odd, "refused 0 18\ndiffers 1 unlisted\n");
+    // Document: 7 at 4; one instance; 8 at 18; 8 at 2.
+    let code = owners("0D 0000 8E");
+    assert_eq!(code, "refused 13 0\ndiffers 2 unlisted\n");
+    let strings = owners(&value("0100 81 00 00"));
+    assert_eq!(strings, "refused 3 18\ndiffers 3 unlisted\n");
+    let sids = owners(&value("0000 93 00"));
+    assert_eq!(sids, "owners 0\ndiffers 4 unlisted\n");
+    let body = owners("05 21 0000");
+    assert_eq!(body, "refused 13 0\ndiffers 5 unlisted\n");
+    // Document: a number that the answer has, 8 at 2.
+    let sheet = one(case(b'C', 0, 0, 4, &hex("00000000 05 21 0000")));
+    let short = "answer 9000000000000001\nwords\ndiffers 5 unlisted\n";
+    assert_eq!(sheet, short);
+}
+
 #[test]
 fn row_6_end_outside() {
     // Document: 3 at 65512, plain and strict.

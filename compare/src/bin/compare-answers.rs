@@ -4,6 +4,9 @@
 //! if it meets a row of the list of differences and the port's answer first differs in a line that
 //! the row allows. Where the Rust's answer is never document 01's, equal is wrong too. The first
 //! other case is printed, and ends the run.
+//!
+//! An answer of mode O or C does not list the tokens, so the token that meets a row has no line of its
+//! own there: a row then allows what document 01 can answer after such a token.
 
 use std::collections::BTreeMap;
 use std::fs::File;
@@ -14,6 +17,8 @@ use std::process::ExitCode;
 struct Answer {
     lines: Vec<String>,
     rows: Vec<u8>,
+    /// Whether the tokens that meet these rows have no line of their own.
+    unlisted: bool,
     /// Whether the dot that ends an answer was there.
     ended: bool,
 }
@@ -23,6 +28,7 @@ impl Answer {
         let mut answer = Answer {
             lines: Vec::new(),
             rows: Vec::new(),
+            unlisted: false,
             ended: false,
         };
         for line in input.lines() {
@@ -31,13 +37,16 @@ impl Answer {
                 answer.ended = true;
                 break;
             }
-            match line
-                .strip_prefix("differs ")
-                .and_then(|row| row.parse().ok())
-            {
-                Some(row) => answer.rows.push(row),
-                None => answer.lines.push(line),
-            }
+            let Some(mark) = line.strip_prefix("differs ") else {
+                answer.lines.push(line);
+                continue;
+            };
+            let (row, unlisted) = match mark.strip_suffix(" unlisted") {
+                Some(row) => (row, true),
+                None => (mark, false),
+            };
+            answer.rows.push(row.parse().expect("a row is a number"));
+            answer.unlisted = unlisted;
         }
         Ok(answer)
     }
@@ -92,8 +101,23 @@ fn main() -> io::Result<ExitCode> {
 /// Whether the Rust's answer is never document 01's: it has no such refusal, or it always refuses with
 /// another number.
 fn must_differ(theirs: &Answer) -> bool {
-    let unknown = |line: &String| line.starts_with("refused 0 ");
-    theirs.rows.contains(&5) || theirs.lines.iter().any(unknown)
+    let unknown = |line: &String| refused(line) == Some(0);
+    // After an array of strings the two may read other tokens, and document 01 may not meet row 5.
+    let astray = theirs.unlisted && theirs.rows.contains(&3);
+    theirs.rows.contains(&5) && !astray || theirs.lines.iter().any(unknown)
+}
+
+/// The number that a line refuses with, if it does: in words, or in the word of a C call.
+fn refused(line: &str) -> Option<u8> {
+    let mut words = line.split(' ');
+    match (words.next()?, words.next()?) {
+        ("refused", number) => number.parse().ok(),
+        ("answer", word) => {
+            let word = u64::from_str_radix(word, 16).ok()?;
+            (word >> 63 == 1).then_some((word >> 56) as u8 & 0x7f)
+        }
+        _ => None,
+    }
 }
 
 /// Whether a row of the list of differences allows the port's answer. It allows no missing answer.
@@ -102,19 +126,40 @@ fn excused(ours: &Answer, theirs: &Answer) -> bool {
     let (Some(line), Some(their_line)) = (ours.lines.get(same), theirs.lines.get(same)) else {
         return false;
     };
-    let begins = |word| line.starts_with(word);
-    let allowed = |row: &u8| match row {
+    let listed = |row: &u8| match row {
         // A string of an odd size, and an array of strings, are read by their size.
-        1 => their_line.starts_with("refused 0 ") && reads_on(line, "01"),
+        1 => refused(their_line) == Some(0) && reads_on(line, "01"),
         3 => reads_on(line, "81"),
-        2 => begins("refused 7 "),
-        4 | 5 => begins("refused 8 "),
+        2 => refused(line) == Some(7),
+        4 | 5 => refused(line) == Some(8),
         // The record's end lies outside, or the chunk's end cuts its header.
-        6 | 7 => begins("refused 3 "),
-        8 => begins("checksum no"),
+        6 | 7 => refused(line) == Some(3),
+        8 => line.starts_with("checksum no"),
         _ => false,
     };
-    ours.ended == theirs.ended && theirs.rows.iter().any(allowed)
+    let unlisted = |row: &u8| match row {
+        // What comes after the string, or after the array, decides.
+        1 => refused(their_line) == Some(0) && refused(line) != Some(0),
+        3 => refused(line) != Some(0),
+        2 | 4 | 5 => listed(row),
+        _ => false,
+    };
+    let mut rows = theirs.rows.iter();
+    let allowed = if theirs.unlisted {
+        rows.any(unlisted) && ours.lines.len() == theirs.lines.len() && keeps_words(ours)
+    } else {
+        rows.any(listed)
+    };
+    ours.ended == theirs.ended && allowed
+}
+
+/// Whether the answer of a C call that is refused leaves the lent words as they were.
+fn keeps_words(answer: &Answer) -> bool {
+    let [first, words] = &answer.lines[..] else {
+        return true;
+    };
+    let kept = |word: &str| word.chars().all(|digit| digit == 'f');
+    refused(first).is_none() || words.split(' ').skip(1).all(kept)
 }
 
 /// Whether the line is an instance in which each value of this type ends where its size says, or the

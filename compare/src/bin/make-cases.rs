@@ -37,6 +37,7 @@ fn read(arguments: &[String]) -> Option<(u64, usize, &str, Option<usize>)> {
 }
 
 fn usage() -> ExitCode {
-    eprintln!("usage: make-cases SEED COUNT chunk|token|types|stored [--only NUMBER] >batch");
+    let kinds = "chunk|token|body|types|lists|stored";
+    eprintln!("usage: make-cases SEED COUNT {kinds} [--only NUMBER] >batch");
     ExitCode::from(2)
 }

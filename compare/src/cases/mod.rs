@@ -1,9 +1,12 @@
 //! Makes cases of a batch, from a seed: the same seed gives the same cases.
 
+mod body_cases;
 mod chunk_cases;
 mod chunks;
-mod random;
+pub mod lists;
+pub mod random;
 mod stored;
+mod stored_bodies;
 mod stored_tokens;
 mod streams;
 mod token_cases;
@@ -33,14 +36,16 @@ impl Case {
     }
 }
 
-/// The first `count` cases of a kind, if there is such a kind. The stored ones, and those of the
-/// type codes, are the same for every seed; the others have no end.
+/// The first `count` cases of a kind, if there is such a kind. The stored ones, those of the type
+/// codes and those of short lists are the same for every seed; the others have no end.
 pub fn make(kind: &str, seed: u64, count: usize) -> Option<Box<dyn Iterator<Item = Case>>> {
     let of_one_input = match kind {
         "stored" => return Some(Box::new(stored::cases().into_iter().take(count))),
         "types" => return Some(Box::new(types::cases().take(count))),
+        "lists" => return Some(Box::new(body_cases::short_lists().take(count))),
         "chunk" => chunk_cases::of_one_chunk,
         "token" => token_cases::of_one_stream,
+        "body" => body_cases::of_one_body,
         _ => return None,
     };
     let mut random = Random::new(seed);

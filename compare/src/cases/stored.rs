@@ -3,6 +3,7 @@
 use super::Case;
 use super::chunk_cases::case;
 use super::chunks::SIZE;
+use super::stored_bodies;
 use super::stored_tokens;
 use crate::Hasher;
 
@@ -12,6 +13,7 @@ pub fn cases() -> Vec<Case> {
     let mut cases = whole_chunks();
     cases.extend(short_chunks());
     cases.extend(stored_tokens::cases());
+    cases.extend(stored_bodies::cases());
     // No such mode: the run ends.
     cases.push(case(b'Z', 0, 0, &[], &[]));
     cases.push(case(b'H', 0, 0, &[], &[]));

@@ -16,10 +16,10 @@ const DATA: usize = 48;
 const BINARY_ARRAY: u8 = 0x8e;
 
 /// What a walk is asked for: flags and stream.
-type Sample = (u8, &'static str);
+pub type Sample = (u8, &'static str);
 
 /// A token of each shape: each is cut at every place.
-const WHOLE: &[Sample] = &[
+pub const WHOLE: &[Sample] = &[
     (0, "01 11223344 00020000"),
     (1, "41 FFFF 11223344 00020000 55667788"),
     (
@@ -51,7 +51,7 @@ const WHOLE: &[Sample] = &[
 ];
 
 /// Refusals, with what decides between two of them.
-const REFUSED: &[Sample] = &[
+pub const REFUSED: &[Sample] = &[
     // 2: a name in place, a definition, a deleted value and a short read go past the end.
     (0, "06 05000000 00000000 0000 0100 4100"),
     (0, "06 05000000 00000000 0000 FF7F 4100"),
@@ -100,7 +100,7 @@ const REFUSED: &[Sample] = &[
 ];
 
 /// Document 01's samples.
-const DOCUMENT: &[Sample] = &[
+pub const DOCUMENT: &[Sample] = &[
     (0, ""),
     (0, "10"),
     (0, "01 00000000 00020000 03 00"),
@@ -132,7 +132,7 @@ pub fn cases() -> Vec<Case> {
     cases
 }
 
-fn hex(text: &str) -> Vec<u8> {
+pub fn hex(text: &str) -> Vec<u8> {
     let digits: Vec<u8> = text.bytes().filter(|byte| *byte != b' ').collect();
     let digit = |byte: u8| char::from(byte).to_digit(16).expect("hex") as u8;
     let pairs = digits.as_chunks::<2>().0.iter();

@@ -1,6 +1,11 @@
 //! Token streams: sound ones, ones with slips in them, and noise of token bytes.
 
+use super::lists;
 use super::random::Random;
+use crate::oracle::kinds;
+
+/// A fragment header.
+pub const FRAGMENT: [u8; 4] = [0x0f, 1, 1, 0];
 
 /// The type codes that document 01 knows.
 pub const KNOWN: [u8; 45] = [
@@ -71,6 +76,42 @@ pub fn make(random: &mut Random) -> Stream {
         maker.put(&[0]);
     }
     maker.stream
+}
+
+/// A stream without slips that holds tokens of these kinds.
+pub fn of_list(random: &mut Random, list: &[u8]) -> Stream {
+    let mut maker = Maker::new(random, 0);
+    maker.list(list, 2);
+    if maker.random.once_in(2) {
+        maker.put(&[0]);
+    }
+    maker.stream
+}
+
+/// The shortest token of a kind: names elsewhere, no dependency.
+pub fn shortest(kind: u8) -> &'static [u8] {
+    match kind {
+        kinds::INSTANCE => &[0x0c, 0, 0, 0, 0, 0, 0, 0, 0, 0, 0, 0, 0, 0],
+        kinds::OPEN => &[0x01, 0, 0, 0, 0, 0, 0, 0, 0],
+        kinds::CLOSE_START => &[0x02],
+        kinds::CLOSE_EMPTY => &[0x03],
+        kinds::CLOSE_ELEMENT => &[0x04],
+        kinds::VALUE => &[0x05, 0],
+        kinds::ATTRIBUTE => &[0x06, 0, 0, 0, 0],
+        kinds::CDATA => &[0x07, 0, 0],
+        kinds::CHAR_REF => &[0x08, 0, 0],
+        kinds::ENTITY_REF => &[0x09, 0, 0, 0, 0],
+        kinds::PI_TARGET => &[0x0a, 0, 0, 0, 0],
+        kinds::PI_DATA => &[0x0b, 0, 0],
+        kinds::SUBSTITUTION => &[0x0d, 0, 0, 0],
+        kind => panic!("no kind {kind}"),
+    }
+}
+
+/// The shortest stream that holds tokens of these kinds.
+pub fn shortest_of_list(list: &[u8]) -> Vec<u8> {
+    let tokens: Vec<&[u8]> = list.iter().map(|&kind| shortest(kind)).collect();
+    tokens.concat()
 }
 
 /// A stream of exactly `size` bytes, up to which its tokens reach.
@@ -212,31 +253,26 @@ impl<'a> Maker<'a> {
         self.stream.places.push(at);
     }
 
-    /// A token of any kind.
+    /// A token of any kind, an item or an instance above all, or a fragment header.
     fn token(&mut self, levels: usize) {
-        self.mark();
         match self.random.below(16) {
-            0 => self.open(),
-            1 => self.put(&[0x02]),
-            2 => self.put(&[0x03]),
-            3 => self.put(&[0x04]),
-            4 => self.value(),
-            5 => self.named(&[0x06, 0x46]),
-            6 => self.text(&[0x07, 0x47]),
-            7 => self.char_ref(),
-            8 => self.named(&[0x09, 0x49]),
-            9 => self.named(&[0x0a]),
-            10 => self.text(&[0x0b]),
-            11 | 12 => self.instance(levels),
-            13 => self.substitution(),
-            14 => self.fragment(),
+            0 => self.token_of(kinds::INSTANCE, levels),
+            1 => {
+                self.mark();
+                self.fragment();
+            }
+            2 if self.slip() => {
+                self.mark();
+                let any = self.random.byte();
+                self.put(&[any]);
+            }
+            2 => {
+                let kind = self.random.one_of(&kinds::ITEMS);
+                self.token_of(kind, levels);
+            }
             _ => {
-                if self.slip() {
-                    let any = self.random.byte();
-                    self.put(&[any]);
-                } else {
-                    self.item();
-                }
+                let kind = self.random.one_of(&kinds::ALL);
+                self.token_of(kind, levels);
             }
         }
     }
@@ -246,52 +282,38 @@ impl<'a> Maker<'a> {
         if self.random.once_in(2) {
             self.fragment();
         }
-        if self.random.once_in(4) {
-            self.instance(levels);
-        } else {
-            self.element(levels);
+        let list = lists::body(self.random, levels);
+        self.list(&list, levels);
+    }
+
+    /// Tokens of these kinds, and a fragment header between some.
+    fn list(&mut self, list: &[u8], levels: usize) {
+        for &kind in list {
+            if self.random.once_in(16) {
+                self.fragment();
+            }
+            self.token_of(kind, levels);
         }
     }
 
-    fn element(&mut self, levels: usize) {
+    /// A token of a kind.
+    fn token_of(&mut self, kind: u8, levels: usize) {
         self.mark();
-        self.open();
-        for _ in 0..self.random.below(3) {
-            self.named(&[0x06, 0x46]);
-            for _ in 0..self.random.below(3) {
-                self.item();
-            }
-        }
-        self.mark();
-        if self.random.once_in(3) {
-            self.put(&[0x03]);
-            return;
-        }
-        self.put(&[0x02]);
-        for _ in 0..self.random.below(4) {
-            self.mark();
-            match self.random.below(6) {
-                0 if levels > 1 => self.element(levels - 1),
-                1 => self.text(&[0x07, 0x47]),
-                2 => {
-                    self.named(&[0x0a]);
-                    self.text(&[0x0b]);
-                }
-                3 => self.fragment(),
-                _ => self.item(),
-            }
-        }
-        self.put(&[0x04]);
-    }
-
-    /// What an attribute may hold.
-    fn item(&mut self) {
-        self.mark();
-        match self.random.below(4) {
-            0 => self.value(),
-            1 => self.substitution(),
-            2 => self.char_ref(),
-            _ => self.named(&[0x09, 0x49]),
+        match kind {
+            kinds::INSTANCE => self.instance(levels),
+            kinds::OPEN => self.open(),
+            kinds::CLOSE_START => self.put(&[0x02]),
+            kinds::CLOSE_EMPTY => self.put(&[0x03]),
+            kinds::CLOSE_ELEMENT => self.put(&[0x04]),
+            kinds::VALUE => self.value(),
+            kinds::ATTRIBUTE => self.named(&[0x06, 0x46]),
+            kinds::CDATA => self.text(&[0x07, 0x47]),
+            kinds::CHAR_REF => self.char_ref(),
+            kinds::ENTITY_REF => self.named(&[0x09, 0x49]),
+            kinds::PI_TARGET => self.named(&[0x0a]),
+            kinds::PI_DATA => self.text(&[0x0b]),
+            kinds::SUBSTITUTION => self.substitution(),
+            kind => panic!("no kind {kind}"),
         }
     }
 
@@ -508,7 +530,9 @@ impl<'a> Maker<'a> {
         let at = self.position();
         self.put32(0);
         if levels > 0 && self.random.once_in(2) {
-            self.element(levels - 1);
+            let mut list = Vec::new();
+            lists::element(self.random, levels - 1, &mut list);
+            self.list(&list, levels - 1);
         } else {
             for _ in 0..self.random.below(12) {
                 let byte = self.random.byte();

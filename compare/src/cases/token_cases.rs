@@ -32,10 +32,10 @@ pub fn case(mode: u8, flags: u8, start: u32, length: u32, data: &[u8]) -> Case {
 fn walks(random: &mut Random) -> Vec<Case> {
     let mut stream = streams::make(random);
     let meant = flags(&stream);
-    let mut cases = vec![whole(&stream, meant)];
+    let mut cases = vec![whole(b'T', &stream, meant)];
     // Flags that a mode does not name are passed over.
     let other = (meant ^ random.one_of(&[1, 2, 3])) | random.one_of(&[0, 0, 0xfc]);
-    cases.push(whole(&stream, other));
+    cases.push(whole(b'T', &stream, other));
     let (start, length) = window(random, &stream);
     cases.push(case(b'T', meant, start, length, &stream.bytes));
 
@@ -49,27 +49,27 @@ fn walks(random: &mut Random) -> Vec<Case> {
             let (start, length) = window(random, &stream);
             cases.push(case(b'T', meant, start, length, &stream.bytes));
         } else {
-            cases.push(whole(&stream, meant));
+            cases.push(whole(b'T', &stream, meant));
         }
     }
     cases
 }
 
 /// The flags that a stream is meant for.
-fn flags(stream: &Stream) -> u8 {
+pub fn flags(stream: &Stream) -> u8 {
     let dependencies = if stream.dependencies { DEPENDENCIES } else { 0 };
     let inline = if stream.inline { INLINE } else { 0 };
     dependencies | inline
 }
 
-/// The walk from the first token to the stream's end.
-fn whole(stream: &Stream, flags: u8) -> Case {
+/// The walk from the first token to the stream's end, in a mode.
+pub fn whole(mode: u8, stream: &Stream, flags: u8) -> Case {
     let length = stream.bytes.len().saturating_sub(stream.start) as u32;
-    case(b'T', flags, stream.start as u32, length, &stream.bytes)
+    case(mode, flags, stream.start as u32, length, &stream.bytes)
 }
 
 /// A start and a length: a token's, any inside, the ends, or far off.
-fn window(random: &mut Random, stream: &Stream) -> (u32, u32) {
+pub fn window(random: &mut Random, stream: &Stream) -> (u32, u32) {
     let size = stream.bytes.len();
     let known = stream.places[random.below(stream.places.len())];
     let start = match random.below(10) {
@@ -143,7 +143,7 @@ fn consumed(random: &mut Random, bytes: &[u8], known: usize) -> Case {
 fn long(random: &mut Random) -> Vec<Case> {
     let size = random.one_of(&[65535, 65536, 65536, 65537]);
     let stream = streams::long(random, size);
-    let mut cases = vec![whole(&stream, flags(&stream))];
+    let mut cases = vec![whole(b'T', &stream, flags(&stream))];
     let start = random.between(size - 40, size + 1);
     let length = random.one_of(&[1, 40, 0xffff_ffff]);
     cases.push(case(

@@ -1,12 +1,14 @@
-//! A batch of cases and its answers, for the modes that the printed Rust has calls for.
+//! A batch of cases and its answers, in all modes.
 
 use crate::oracle::differences::Met;
-use crate::oracle::{chunk, tokens};
+use crate::oracle::tokens::Asked;
+use crate::oracle::{calls, chunk, owners, tokens};
 use std::io::{self, Read, Write};
 
 const HEAD: usize = 14;
 const DATA_LIMIT: usize = 131_072;
 const STATE: usize = 40;
+const ROOM: usize = 4;
 
 /// A case: its head's fields and its data.
 struct Case {
@@ -21,6 +23,21 @@ impl Case {
     fn flag(&self, bit: u8) -> bool {
         self.flags & bit != 0
     }
+
+    /// The walk that the modes T, O and C begin with.
+    fn walk(&self) -> Asked {
+        Asked {
+            start: self.start as usize,
+            length: self.length as usize,
+            dependencies: self.flag(1),
+            inline_names: self.flag(2),
+        }
+    }
+
+    /// Whether its answer says nothing of the tokens before the one that decides it.
+    fn unlisted(&self) -> bool {
+        matches!(self.mode, b'O' | b'C')
+    }
 }
 
 /// What the input holds next.
@@ -31,7 +48,8 @@ enum Next {
 }
 
 /// Answers all cases of `input`. A case that is no case ends the run. If `mark`, a line `differs`
-/// and a number stands before the dot for each row of the list of differences that the case meets.
+/// and a number stands before the dot for each row of the list of differences that the case meets,
+/// with the word `unlisted` in the modes whose answer does not list the tokens.
 pub fn run(input: &mut impl Read, output: &mut impl Write, mark: bool) -> io::Result<()> {
     loop {
         match next_case(input)? {
@@ -44,7 +62,8 @@ pub fn run(input: &mut impl Read, output: &mut impl Write, mark: bool) -> io::Re
                 let mut text = String::new();
                 let met = answer(&case, &mut text);
                 for difference in met.into_iter().filter(|_| mark) {
-                    text.push_str(&format!("differs {}\n", difference as u8));
+                    let unlisted = if case.unlisted() { " unlisted" } else { "" };
+                    text.push_str(&format!("differs {}{unlisted}\n", difference as u8));
                 }
                 text.push_str(".\n");
                 output.write_all(text.as_bytes())?;
@@ -68,7 +87,7 @@ fn next_case(input: &mut impl Read) -> io::Result<Next> {
     let least = match mode {
         b'H' | b'R' | b'W' | b'T' | b'S' | b'O' => 0,
         b'P' => STATE,
-        b'C' => 4,
+        b'C' => ROOM,
         _ => return Ok(Next::Bad),
     };
     if size > DATA_LIMIT || size < least {
@@ -96,7 +115,6 @@ fn read_up_to(input: &mut impl Read, size: usize) -> io::Result<Vec<u8>> {
 
 fn answer(case: &Case, out: &mut String) -> Met {
     let data = &case.data[..];
-    let start = case.start as usize;
     match case.mode {
         b'H' => chunk::answer_header(data, out),
         b'R' => chunk::answer_record(data, u64::from(case.start), case.flag(1), out),
@@ -105,19 +123,21 @@ fn answer(case: &Case, out: &mut String) -> Met {
             let (state, data) = data.split_at(STATE);
             chunk::answer_step(data, chunk::State::from_words(state_words(state)), out)
         }
-        b'T' => {
-            let length = case.length as usize;
-            tokens::answer_walk(data, start, length, case.flag(1), case.flag(2), out)
-        }
+        b'T' => tokens::answer_walk(data, case.walk(), out),
         b'S' => {
-            tokens::answer_single(data, start, out);
+            tokens::answer_single(data, case.start as usize, out);
             Met::new()
         }
-        // Owner table and C calls are added by the port.
-        _ => {
-            out.push_str("no such call in the Rust\n");
-            Met::new()
+        b'O' => owners::answer(data, case.walk(), out),
+        b'C' => {
+            let (room, data) = data.split_first_chunk::<ROOM>().expect("a case has it");
+            let call = calls::Call {
+                owners: case.flag(4),
+                room: u32::from_le_bytes(*room),
+            };
+            calls::answer(data, case.walk(), call, out)
         }
+        mode => unreachable!("a case of mode {mode}"),
     }
 }
 

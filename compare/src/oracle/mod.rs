@@ -1,9 +1,14 @@
-//! The printed Rust as an oracle: its answers, in document 01's numbers and places.
+//! The printed Rust as an oracle: its answers, in document 01's numbers and places. The grammar and the
+//! C calls, which it has no counterpart for, are written down from document 01.
 
 pub mod batch;
+pub mod bodies;
+pub mod calls;
 pub mod chunk;
 pub mod differences;
+pub mod kinds;
 pub mod leaves;
+pub mod owners;
 pub mod refusal;
 pub mod tokens;
 mod values;

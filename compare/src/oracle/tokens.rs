@@ -1,4 +1,4 @@
-//! The token side: the walk with each token's place and length, and the single instance.
+//! The token side: the walk with each token's place and length, for modes T, O and C, and the single instance.
 //!
 //! The printed walk hands a token to its sink and says nothing of where it stood. Both ends are
 //! got from the printed walk all the same:
@@ -18,7 +18,8 @@ use crate::err::Result as EvtxResult;
 use crate::evtx_chunk::raw_walk;
 use crate::oracle::differences::{Met, of_token};
 use crate::oracle::refusal::Refusal;
-use crate::oracle::{CHUNK_SIZE, hex, values};
+use crate::oracle::values::Fields;
+use crate::oracle::{CHUNK_SIZE, hex, kinds, values};
 use crate::utils::Utf16LeSlice;
 use crate::{Bump, ChunkOffset, EvtxChunk, WINDOWS_1252};
 use std::fmt::Write;
@@ -45,19 +46,19 @@ impl Token<'_> {
     /// Document 01's number of the kind.
     fn kind(&self) -> u8 {
         match self {
-            Token::Instance(_) => 1,
-            Token::Open(..) => 2,
-            Token::CloseStart => 3,
-            Token::CloseEmpty => 4,
-            Token::CloseElement => 5,
-            Token::Value(_) => 6,
-            Token::Attribute(_) => 7,
-            Token::EntityRef(_) => 8,
-            Token::PiTarget(_) => 9,
-            Token::PiData(_) => 10,
-            Token::Cdata(_) => 11,
-            Token::CharRef(_) => 12,
-            Token::Substitution(..) => 13,
+            Token::Instance(_) => kinds::INSTANCE,
+            Token::Open(..) => kinds::OPEN,
+            Token::CloseStart => kinds::CLOSE_START,
+            Token::CloseEmpty => kinds::CLOSE_EMPTY,
+            Token::CloseElement => kinds::CLOSE_ELEMENT,
+            Token::Value(_) => kinds::VALUE,
+            Token::Attribute(_) => kinds::ATTRIBUTE,
+            Token::EntityRef(_) => kinds::ENTITY_REF,
+            Token::PiTarget(_) => kinds::PI_TARGET,
+            Token::PiData(_) => kinds::PI_DATA,
+            Token::Cdata(_) => kinds::CDATA,
+            Token::CharRef(_) => kinds::CHAR_REF,
+            Token::Substitution(..) => kinds::SUBSTITUTION,
         }
     }
 }
@@ -211,63 +212,135 @@ impl<'a> Walker<'a> {
     }
 }
 
-/// Mode T.
-pub fn answer_walk(
-    data: &[u8],
-    start: usize,
-    length: usize,
-    dependencies: bool,
-    inline_names: bool,
-    out: &mut String,
-) -> Met {
-    let mut met = Met::new();
+/// What a walk is asked for.
+#[derive(Clone, Copy)]
+pub struct Asked {
+    pub start: usize,
+    pub length: usize,
+    pub dependencies: bool,
+    pub inline_names: bool,
+}
+
+/// A token, where it stands, and where the walk reads on.
+struct Placed<'a> {
+    token: Token<'a>,
+    place: usize,
+    next: usize,
+    /// The values, if it is an instance.
+    values: Option<Fields>,
+}
+
+/// A walk: the tokens before its end, how it ended, and what it meets.
+struct Walked<'a> {
+    tokens: Vec<Placed<'a>>,
+    end: Result<(), Refusal>,
+    met: Met,
+}
+
+/// Hands the walk over `data` to `then`.
+fn walked<R>(data: &[u8], asked: Asked, then: impl FnOnce(Walked<'_>) -> R) -> R {
     // Document 01's rule: the printed walk knows no such limit.
     if data.len() > CHUNK_SIZE {
-        out.push_str("refused 1 0\n");
-        return met;
+        return then(Walked {
+            tokens: Vec::new(),
+            end: Err(Refusal::new(1, 0)),
+            met: Met::new(),
+        });
     }
     let bump = Bump::new();
     let header = raw_walk::blank_header();
     let chunk = raw_walk::bare_chunk(data, &header, false);
     let walker = Walker {
-        chunk: (!inline_names).then_some(&chunk),
-        dependencies,
+        chunk: (!asked.inline_names).then_some(&chunk),
+        dependencies: asked.dependencies,
     };
-    let (tokens, end) = walker.walk(data, start, length, &bump);
-    let (places, last) = if start > data.len() {
+    let (tokens, end) = walker.walk(data, asked.start, asked.length, &bump);
+    let (places, last) = if asked.start > data.len() {
         // No round can be run.
-        (Vec::new(), start)
+        (Vec::new(), asked.start)
     } else {
-        walker.places(data, start, length, &tokens, end)
+        walker.places(data, asked.start, asked.length, &tokens, end)
     };
 
-    for (token, (place, next)) in tokens.iter().zip(places) {
-        write!(out, "{place} {} {}", next - place, token.kind()).expect("a String takes all");
-        push_fields(data, token, place, next, out, &mut met);
-        out.push('\n');
-    }
-    match end {
-        Ok(()) => writeln!(out, "ok {}", tokens.len()),
-        Err(Refusal { number, place }) => {
-            of_token(data, last, false, &mut met);
-            writeln!(out, "refused {number} {place}")
+    let mut met = Met::new();
+    let placed = |(token, (place, next))| {
+        let values = match &token {
+            Token::Instance(instance) => Some(values::of_instance(data, instance, place, next)),
+            _ => None,
+        };
+        let exact = values.as_ref().is_none_or(|values| values.exact);
+        of_token(data, place, exact, &mut met);
+        Placed {
+            token,
+            place,
+            next,
+            values,
         }
+    };
+    let tokens = tokens.into_iter().zip(places).map(placed).collect();
+    if end.is_err() {
+        of_token(data, last, false, &mut met);
     }
-    .expect("a String takes all");
-    met
+    then(Walked { tokens, end, met })
 }
 
-/// Adds what a token's line holds after its kind, with a space before each field.
-fn push_fields(
-    data: &[u8],
-    token: &Token<'_>,
-    place: usize,
-    next: usize,
-    out: &mut String,
-    met: &mut Met,
-) {
-    let mut exact = true;
-    match token {
+/// What the sheet says of a token.
+pub(super) struct Row {
+    pub(super) kind: u8,
+    pub(super) place: usize,
+    pub(super) length: usize,
+    /// Dependency, char or substitution, else 0.
+    pub(super) number: u16,
+    /// Dependency present, or optional.
+    pub(super) flag: bool,
+}
+
+impl Row {
+    fn of(placed: &Placed<'_>) -> Self {
+        let (number, flag) = match placed.token {
+            Token::Open(_, dependency) => (dependency.unwrap_or(0), dependency.is_some()),
+            Token::CharRef(number) => (number, false),
+            Token::Substitution(number, optional) => (number, optional),
+            _ => (0, false),
+        };
+        Row {
+            kind: placed.token.kind(),
+            place: placed.place,
+            length: placed.next - placed.place,
+            number,
+            flag,
+        }
+    }
+}
+
+/// The tokens of a walk, or its refusal, and what it meets.
+pub(super) fn rows(data: &[u8], asked: Asked) -> (Result<Vec<Row>, Refusal>, Met) {
+    walked(data, asked, |walked| {
+        let rows = walked.tokens.iter().map(Row::of).collect();
+        (walked.end.map(|()| rows), walked.met)
+    })
+}
+
+/// Mode T.
+pub fn answer_walk(data: &[u8], asked: Asked, out: &mut String) -> Met {
+    walked(data, asked, |walked| {
+        for placed in &walked.tokens {
+            push_line(data, placed, out).expect("a String takes all");
+        }
+        match walked.end {
+            Ok(()) => writeln!(out, "ok {}", walked.tokens.len()),
+            Err(Refusal { number, place }) => writeln!(out, "refused {number} {place}"),
+        }
+        .expect("a String takes all");
+        walked.met
+    })
+}
+
+/// Adds a token's line.
+fn push_line(data: &[u8], placed: &Placed<'_>, out: &mut String) -> std::fmt::Result {
+    let (place, next) = (placed.place, placed.next);
+    write!(out, "{place} {} {}", next - place, placed.token.kind())?;
+    match &placed.token {
         Token::CloseStart | Token::CloseEmpty | Token::CloseElement => Ok(()),
         Token::Open(name, Some(dependency)) => write!(out, " {name} {dependency}"),
         Token::Open(name, None) => write!(out, " {name} -"),
@@ -283,19 +356,18 @@ fn push_fields(
             write!(out, " {code:02x}:-:{start}:{next}:{content}")
         }
         Token::Instance(instance) => {
-            let values = values::of_instance(data, instance, place, next);
-            exact = values.exact;
+            let fields = placed.values.iter().flat_map(|values| &values.fields);
             let guid = instance.template_guid.as_ref();
             let guid = guid.map_or("-".to_owned(), |guid| hex(guid.as_bytes()));
             let (id, definition) = (instance.template_id, instance.template_def_offset);
-            write!(out, " {id} {definition} {guid} {}", values.fields.len()).and_then(|()| {
-                let mut fields = values.fields.iter();
-                fields.try_for_each(|field| write!(out, " {field}"))
-            })
+            write!(out, " {id} {definition} {guid} {}", instance.values.len())?;
+            fields
+                .into_iter()
+                .try_for_each(|field| write!(out, " {field}"))
         }
-    }
-    .expect("a String takes all");
-    of_token(data, place, exact, met);
+    }?;
+    out.push('\n');
+    Ok(())
 }
 
 /// Mode S.

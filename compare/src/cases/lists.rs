@@ -1,0 +1,121 @@
+//! Lists of token kinds: bodies of document 01's grammar, changed ones, and all short ones.
+
+use super::random::Random;
+use crate::oracle::kinds::{
+    ALL, ATTRIBUTE, CDATA, CLOSE_ELEMENT, CLOSE_EMPTY, CLOSE_START, INSTANCE, ITEMS, OPEN, PI_DATA,
+    PI_TARGET,
+};
+
+/// A body: an instance, or an element with so many levels at most.
+pub fn body(random: &mut Random, levels: usize) -> Vec<u8> {
+    if random.once_in(8) {
+        return vec![INSTANCE];
+    }
+    let mut list = Vec::new();
+    element(random, levels, &mut list);
+    list
+}
+
+/// Adds an element with so many levels at most.
+pub fn element(random: &mut Random, levels: usize, list: &mut Vec<u8>) {
+    list.push(OPEN);
+    for _ in 0..random.below(3) {
+        list.push(ATTRIBUTE);
+        for _ in 0..random.below(3) {
+            list.push(random.one_of(&ITEMS));
+        }
+    }
+    if random.once_in(3) {
+        list.push(CLOSE_EMPTY);
+        return;
+    }
+    list.push(CLOSE_START);
+    for _ in 0..random.below(5) {
+        match random.below(6) {
+            0 | 1 if levels > 1 => element(random, levels - 1, list),
+            2 => list.push(CDATA),
+            3 => list.extend([PI_TARGET, PI_DATA]),
+            _ => list.push(random.one_of(&ITEMS)),
+        }
+    }
+    list.push(CLOSE_ELEMENT);
+}
+
+/// Elements in each other, so many levels deep, with `inner` in the content of the innermost; it is
+/// empty if there are none.
+pub fn nested(levels: usize, inner: &[u8]) -> Vec<u8> {
+    let mut list = [OPEN, CLOSE_START].repeat(levels);
+    list.extend(inner);
+    if inner.is_empty() && levels > 0 {
+        list.pop();
+        list.push(CLOSE_EMPTY);
+        list.extend(vec![CLOSE_ELEMENT; levels - 1]);
+    } else {
+        list.extend(vec![CLOSE_ELEMENT; levels]);
+    }
+    list
+}
+
+/// A body that goes exactly so many levels down at one place, with other elements on the way.
+pub fn deep(random: &mut Random, levels: usize) -> Vec<u8> {
+    let (mut before, mut after) = (Vec::new(), Vec::new());
+    for level in 1..=levels {
+        before.push(OPEN);
+        if random.once_in(8) {
+            before.extend([ATTRIBUTE, random.one_of(&ITEMS)]);
+        }
+        if level == levels && random.once_in(2) {
+            before.push(CLOSE_EMPTY);
+            break;
+        }
+        before.push(CLOSE_START);
+        if level < levels && random.once_in(8) {
+            let most = (levels - level).min(3);
+            element(random, most, &mut before);
+        }
+        after.push(CLOSE_ELEMENT);
+        if random.once_in(8) {
+            after.extend([PI_DATA, PI_TARGET]);
+        }
+    }
+    // What stands after the innermost was put down from the outside in.
+    before.extend(after.iter().rev());
+    before
+}
+
+/// One change: a token dropped, doubled, swapped with the next, put in or made another, or the list
+/// cut.
+pub fn change(random: &mut Random, list: &mut Vec<u8>) {
+    let any = random.one_of(&ALL);
+    if list.is_empty() {
+        list.push(any);
+        return;
+    }
+    let at = random.below(list.len());
+    match random.below(8) {
+        0 | 1 => {
+            list.remove(at);
+        }
+        2 => list.insert(at, list[at]),
+        3 if at + 1 < list.len() => list.swap(at, at + 1),
+        4 => list.truncate(at),
+        5 => list.insert(at, any),
+        6 => list.push(any),
+        _ => list[at] = any,
+    }
+}
+
+/// Every list of a length.
+pub fn every(alphabet: &[u8], length: usize) -> impl Iterator<Item = Vec<u8>> + use<> {
+    let alphabet = alphabet.to_vec();
+    let count = alphabet.len().pow(length as u32);
+    (0..count).map(move |number| {
+        let mut rest = number;
+        let mut list = vec![0; length];
+        for kind in list.iter_mut().rev() {
+            *kind = alphabet[rest % alphabet.len()];
+            rest /= alphabet.len();
+        }
+        list
+    })
+}

@@ -1,0 +1,302 @@
+//! Document 01's grammar over lists of token kinds, and what follows from it by definition alone.
+//!
+//! The sentences of 'Grammar' are written down one by one, as a reader that lists every way in which
+//! the tokens from a place on can be read. Each way is a tree, and owner table and levels are read
+//! off the tree. The refusals 13, 14 and 15 are decided by trying all continuations, so this is for
+//! short lists. The answers come from the machine in owners.rs, and the checks hold it to this.
+
+use crate::oracle::kinds::{
+    ATTRIBUTE, CDATA, CLOSE_ELEMENT, CLOSE_EMPTY, CLOSE_START, INSTANCE, ITEMS, OPEN, PI_DATA,
+    PI_TARGET,
+};
+use crate::oracle::refusal::Refusal;
+use std::collections::BTreeSet;
+
+/// "A body is one instance or one element." A token in a tree is its number.
+#[derive(Debug, Clone)]
+pub enum Body {
+    Instance,
+    Element(Element),
+}
+
+/// "An element is an open token, any attributes, then" its end.
+#[derive(Debug, Clone)]
+pub struct Element {
+    open: usize,
+    attributes: Vec<Attribute>,
+    end: End,
+}
+
+/// "Either close empty, or close start, content, close element."
+#[derive(Debug, Clone)]
+enum End {
+    Empty(usize),
+    Content {
+        close_start: usize,
+        content: Vec<Part>,
+        close_element: usize,
+    },
+}
+
+/// "An attribute is its token and any run of values, substitutions, char refs, entity refs."
+#[derive(Debug, Clone)]
+struct Attribute {
+    token: usize,
+    items: Vec<usize>,
+}
+
+/// "Content is any run of those four, CDATA, elements, and PI target directly followed by PI data."
+#[derive(Debug, Clone)]
+enum Part {
+    Item(usize),
+    Cdata(usize),
+    Element(Element),
+    Pi { target: usize, data: usize },
+}
+
+/// All ways to read something from a place on: each with the place after it.
+type Ways<T> = Vec<(T, usize)>;
+
+/// Every way in which the whole list is a body.
+pub fn bodies(kinds: &[u8]) -> Vec<Body> {
+    let mut ways: Ways<Body> = Vec::new();
+    if kinds.first() == Some(&INSTANCE) {
+        ways.push((Body::Instance, 1));
+    }
+    let elements = elements(kinds, 0).into_iter();
+    ways.extend(elements.map(|(element, end)| (Body::Element(element), end)));
+    let whole = ways.into_iter().filter(|(_, end)| *end == kinds.len());
+    whole.map(|(body, _)| body).collect()
+}
+
+fn elements(kinds: &[u8], open: usize) -> Ways<Element> {
+    let mut ways = Vec::new();
+    if kinds.get(open) != Some(&OPEN) {
+        return ways;
+    }
+    for (attributes, after) in runs(&|at| self::attributes(kinds, at), open + 1) {
+        for (end, after) in ends(kinds, after) {
+            let attributes = attributes.clone();
+            let element = Element {
+                open,
+                attributes,
+                end,
+            };
+            ways.push((element, after));
+        }
+    }
+    ways
+}
+
+fn ends(kinds: &[u8], at: usize) -> Ways<End> {
+    let mut ways = Vec::new();
+    if kinds.get(at) == Some(&CLOSE_EMPTY) {
+        ways.push((End::Empty(at), at + 1));
+    }
+    if kinds.get(at) == Some(&CLOSE_START) {
+        for (content, close_element) in runs(&|at| parts(kinds, at), at + 1) {
+            if kinds.get(close_element) == Some(&CLOSE_ELEMENT) {
+                let end = End::Content {
+                    close_start: at,
+                    content,
+                    close_element,
+                };
+                ways.push((end, close_element + 1));
+            }
+        }
+    }
+    ways
+}
+
+fn attributes(kinds: &[u8], token: usize) -> Ways<Attribute> {
+    if kinds.get(token) != Some(&ATTRIBUTE) {
+        return Vec::new();
+    }
+    let with = |(items, end)| (Attribute { token, items }, end);
+    let items = runs(&|at| items(kinds, at), token + 1);
+    items.into_iter().map(with).collect()
+}
+
+fn items(kinds: &[u8], at: usize) -> Ways<usize> {
+    match kinds.get(at) {
+        Some(kind) if ITEMS.contains(kind) => vec![(at, at + 1)],
+        _ => Vec::new(),
+    }
+}
+
+fn parts(kinds: &[u8], at: usize) -> Ways<Part> {
+    let mut ways: Ways<Part> = Vec::new();
+    let items = items(kinds, at).into_iter();
+    ways.extend(items.map(|(item, end)| (Part::Item(item), end)));
+    if kinds.get(at) == Some(&CDATA) {
+        ways.push((Part::Cdata(at), at + 1));
+    }
+    let elements = elements(kinds, at).into_iter();
+    ways.extend(elements.map(|(element, end)| (Part::Element(element), end)));
+    if kinds.get(at) == Some(&PI_TARGET) && kinds.get(at + 1) == Some(&PI_DATA) {
+        let (target, data) = (at, at + 1);
+        ways.push((Part::Pi { target, data }, at + 2));
+    }
+    ways
+}
+
+/// "Any run": none, or one and then any run. Each way to stop is a way of its own.
+fn runs<T: Clone>(one: &impl Fn(usize) -> Ways<T>, at: usize) -> Ways<Vec<T>> {
+    let mut ways = vec![(Vec::new(), at)];
+    let mut next = 0;
+    while let Some((run, end)) = ways.get(next).cloned() {
+        for (more, end) in one(end) {
+            let longer = [&run[..], &[more]].concat();
+            ways.push((longer, end));
+        }
+        next += 1;
+    }
+    ways
+}
+
+impl Body {
+    /// "The u32 owner table holds owner number plus 1, or 0."
+    pub fn owners(&self, count: usize) -> Vec<u32> {
+        let mut owners = vec![None; count];
+        // "Root and instance have no owner."
+        if let Body::Element(element) = self {
+            element.owners(&mut owners);
+        }
+        let word = |owner: Option<usize>| owner.map_or(0, |owner| owner as u32 + 1);
+        owners.into_iter().map(word).collect()
+    }
+
+    /// The level of each element by its open token: "the root is level 1".
+    pub fn levels(&self) -> Vec<(usize, usize)> {
+        let mut levels = Vec::new();
+        if let Body::Element(element) = self {
+            element.levels(1, &mut levels);
+        }
+        levels
+    }
+
+    /// How many levels it has.
+    pub fn depth(&self) -> usize {
+        let levels = self.levels().into_iter();
+        levels.map(|(_, level)| level).max().unwrap_or(0)
+    }
+}
+
+impl Element {
+    /// "An attribute's items belong to its token; all else directly in an element, its close tokens
+    /// and child opens too, belongs to its open token."
+    fn owners(&self, owners: &mut [Option<usize>]) {
+        let mut ours = Vec::new();
+        for attribute in &self.attributes {
+            ours.push(attribute.token);
+            for &item in &attribute.items {
+                owners[item] = Some(attribute.token);
+            }
+        }
+        match &self.end {
+            End::Empty(close_empty) => ours.push(*close_empty),
+            End::Content {
+                close_start,
+                content,
+                close_element,
+            } => {
+                ours.extend([*close_start, *close_element]);
+                for part in content {
+                    match part {
+                        Part::Item(token) | Part::Cdata(token) => ours.push(*token),
+                        Part::Pi { target, data } => ours.extend([*target, *data]),
+                        Part::Element(child) => {
+                            ours.push(child.open);
+                            child.owners(owners);
+                        }
+                    }
+                }
+            }
+        }
+        for token in ours {
+            owners[token] = Some(self.open);
+        }
+    }
+
+    fn levels(&self, level: usize, levels: &mut Vec<(usize, usize)>) {
+        levels.push((self.open, level));
+        if let End::Content { content, .. } = &self.end {
+            for part in content {
+                if let Part::Element(child) = part {
+                    child.levels(level + 1, levels);
+                }
+            }
+        }
+    }
+}
+
+/// With how many more tokens `count` of them are a body, if some body begins with them: one for each
+/// element that is open, and PI data after a last PI target. An open token and a close start stand
+/// before each of these but the first, so it is half the tokens, rounded up; a first token is one.
+pub fn enough(count: usize) -> usize {
+    count.div_ceil(2).max(1)
+}
+
+/// Hands to `each` the bodies that begin with `kinds` and have up to `more` tokens of the alphabet
+/// after them, the short ones first, until it has enough: then this is true.
+pub fn each_body(
+    kinds: &[u8],
+    more: usize,
+    alphabet: &[u8],
+    each: &mut impl FnMut(&Body) -> bool,
+) -> bool {
+    let mut list = kinds.to_vec();
+    (0..=more).any(|count| each_of_count(&mut list, count, alphabet, each))
+}
+
+fn each_of_count(
+    list: &mut Vec<u8>,
+    count: usize,
+    alphabet: &[u8],
+    each: &mut impl FnMut(&Body) -> bool,
+) -> bool {
+    if count == 0 {
+        return bodies(list).iter().any(each);
+    }
+    alphabet.iter().any(|&kind| {
+        list.push(kind);
+        let stopped = each_of_count(list, count - 1, alphabet, each);
+        list.pop();
+        stopped
+    })
+}
+
+/// The owner tables of a list of kinds, or its refusal, with so many levels at most and continuations
+/// from the alphabet. That there is one table, and that the first body found decides what level a
+/// token opens, is for the checks to show.
+pub fn by_definition(
+    kinds: &[u8],
+    most_levels: usize,
+    alphabet: &[u8],
+) -> Result<BTreeSet<Vec<u32>>, Refusal> {
+    // "The first token where 13 or 14 holds counts, 13 before 14."
+    for number in 0..kinds.len() {
+        let through = &kinds[..=number];
+        let mut opened = None;
+        let begins = each_body(through, enough(through.len()), alphabet, &mut |body| {
+            opened = body.levels().into_iter().find(|(open, _)| *open == number);
+            true
+        });
+        // "No body begins with the tokens through this one"; "bodies of any depth count".
+        if !begins {
+            return Err(Refusal::new(13, number as u64));
+        }
+        // "Opens level 65", where 64 are the most.
+        if opened.is_some_and(|(_, level)| level == most_levels + 1) {
+            return Err(Refusal::new(14, number as u64));
+        }
+    }
+    let bodies = bodies(kinds);
+    if bodies.is_empty() {
+        // "Body unfinished": "count of tokens".
+        return Err(Refusal::new(15, kinds.len() as u64));
+    }
+    assert!(bodies.iter().all(|body| body.depth() <= most_levels));
+    let tables = bodies.iter().map(|body| body.owners(kinds.len()));
+    Ok(tables.collect())
+}

@@ -1,0 +1,102 @@
+//! Mode O: the owner table of a stream, or its refusal.
+//!
+//! The printed Rust has no such call. The tokens are those of its walk; the grammar over their kinds
+//! is read here by a machine with a stack, for lists of any length. bodies.rs says what it has to
+//! answer, and the checks hold the two together.
+
+use crate::oracle::differences::Met;
+use crate::oracle::kinds::{
+    ATTRIBUTE, CDATA, CLOSE_ELEMENT, CLOSE_EMPTY, CLOSE_START, INSTANCE, ITEMS, OPEN, PI_DATA,
+    PI_TARGET,
+};
+use crate::oracle::refusal::Refusal;
+use crate::oracle::tokens::{self, Asked};
+use std::fmt::Write;
+
+/// Document 01's limit: 14 is for what "opens level 65".
+pub const MOST_LEVELS: usize = 64;
+
+/// Where in a body the next token stands.
+#[derive(Clone, Copy)]
+enum Place {
+    Before,
+    /// In an element's start, directly in it or in the attribute of this number.
+    Start(Option<usize>),
+    Content,
+    /// After a PI target.
+    Target,
+    After,
+}
+
+/// The owner table of a body with so many levels at most, or the refusal 13, 14 or 15.
+pub fn owners(kinds: &[u8], most_levels: usize) -> Result<Vec<u32>, Refusal> {
+    let mut table = Vec::with_capacity(kinds.len());
+    // The open tokens of the elements that are not closed yet.
+    let mut open: Vec<usize> = Vec::new();
+    let mut place = Place::Before;
+    for (number, &kind) in kinds.iter().enumerate() {
+        let refused = |refusal| Refusal::new(refusal, number as u64);
+        let mut owner = open.last().copied();
+        place = match (place, kind) {
+            (Place::Before, INSTANCE) => Place::After,
+            (Place::Before | Place::Content, OPEN) => {
+                if open.len() == most_levels {
+                    return Err(refused(14));
+                }
+                open.push(number);
+                Place::Start(None)
+            }
+            (Place::Start(_), ATTRIBUTE) => Place::Start(Some(number)),
+            (Place::Start(Some(attribute)), item) if ITEMS.contains(&item) => {
+                owner = Some(attribute);
+                place
+            }
+            (Place::Start(_), CLOSE_START) => Place::Content,
+            (Place::Start(_), CLOSE_EMPTY) | (Place::Content, CLOSE_ELEMENT) => {
+                open.pop();
+                if open.is_empty() {
+                    Place::After
+                } else {
+                    Place::Content
+                }
+            }
+            (Place::Content, CDATA) => Place::Content,
+            (Place::Content, item) if ITEMS.contains(&item) => Place::Content,
+            (Place::Content, PI_TARGET) => Place::Target,
+            (Place::Target, PI_DATA) => Place::Content,
+            _ => return Err(refused(13)),
+        };
+        table.push(owner.map_or(0, |owner| owner as u32 + 1));
+    }
+    match place {
+        Place::After => Ok(table),
+        _ => Err(Refusal::new(15, kinds.len() as u64)),
+    }
+}
+
+/// The owner table of a stream. Document 01's order of refusals: 1; then the walk's, first met; then
+/// 13, 14 or 15.
+pub(super) fn of_stream(data: &[u8], asked: Asked) -> (Result<Vec<u32>, Refusal>, Met) {
+    let (rows, met) = tokens::rows(data, asked);
+    let table = rows.and_then(|rows| {
+        let kinds: Vec<u8> = rows.iter().map(|row| row.kind).collect();
+        owners(&kinds, MOST_LEVELS)
+    });
+    (table, met)
+}
+
+/// Mode O.
+pub fn answer(data: &[u8], asked: Asked, out: &mut String) -> Met {
+    let (table, met) = of_stream(data, asked);
+    match table {
+        Ok(words) => {
+            out.push_str("owners");
+            let mut words = words.iter();
+            words.try_for_each(|word| write!(out, " {word}"))
+        }
+        Err(Refusal { number, place }) => write!(out, "refused {number} {place}"),
+    }
+    .expect("a String takes all");
+    out.push('\n');
+    met
+}

@@ -1,0 +1,164 @@
+//! Modes O and C through the oracle: document 01's samples, the order of refusals, the packed words, and the lent words.
+
+mod common;
+
+use common::{case, hex};
+
+fn answers(batch: &[u8]) -> String {
+    let text = common::answers(batch, false);
+    text.strip_suffix(".\n").expect("one case").to_owned()
+}
+
+/// The owner table of a whole stream, offset names, no dependencies.
+fn owners(text: &str) -> String {
+    let data = hex(text);
+    answers(&case(b'O', 0, 0, data.len() as u32, &data))
+}
+
+/// A C call on a whole stream; flag 4: the owner call.
+fn call(flags: u8, room: u32, text: &str) -> String {
+    let stream = hex(text);
+    let data = [&room.to_le_bytes(), &stream[..]].concat();
+    answers(&case(b'C', flags, 0, stream.len() as u32, &data))
+}
+
+const ELEMENT: &str = "01 00000000 00020000 03 00";
+const INSTANCE: &str = "0C 01 07000000 00020000 01000000 0200 0800 2A000000";
+
+#[test]
+fn empty_streams() {
+    assert_eq!(owners(""), "refused 15 0\n");
+    assert_eq!(answers(&case(b'O', 0, 0, 1, &[])), "refused 3 0\n");
+    assert_eq!(answers(&case(b'O', 0, 1, 0, &[])), "refused 2 1\n");
+    // The sheet skips the grammar.
+    assert_eq!(call(0, 0, ""), "answer 0000000000000000\nwords\n");
+    assert_eq!(call(4, 0, ""), "answer 8f00000000000000\nwords\n");
+}
+
+#[test]
+fn samples_as_bodies() {
+    assert_eq!(owners(ELEMENT), "owners 0 1\n");
+    assert_eq!(owners("05 01 0200 4100 4200"), "refused 13 0\n");
+    assert_eq!(owners("10"), "refused 9 1\n");
+    assert_eq!(owners(INSTANCE), "owners 0\n");
+    assert_eq!(owners(&format!("0F 01 01 00 {INSTANCE}")), "owners 0\n");
+    assert_eq!(owners("00 10"), "refused 15 0\n");
+}
+
+#[test]
+fn refused_bodies() {
+    let open = "01 00000000 00020000";
+    // A PI target alone, without data, with data after something else, and after a fragment header.
+    assert_eq!(owners("0A 00020000"), "refused 13 0\n");
+    let targets = |text: &str| owners(&format!("{open} 02 0A 00020000 {text} 04"));
+    assert_eq!(targets(""), "refused 13 3\n");
+    assert_eq!(targets("05 00 0B 0000"), "refused 13 3\n");
+    assert_eq!(targets("0B 0000"), "owners 0 1 1 1 1\n");
+    assert_eq!(targets("0F 01 01 00 0B 0000"), "owners 0 1 1 1 1\n");
+    assert_eq!(owners(&format!("{open} 02 0A 00020000")), "refused 15 3\n");
+    // An instance in an element, and something after an instance or an element.
+    assert_eq!(owners(&format!("{open} 02 {INSTANCE}")), "refused 13 2\n");
+    assert_eq!(owners(&format!("{INSTANCE} 03")), "refused 13 1\n");
+    assert_eq!(owners(&format!("{open} 03 03")), "refused 13 2\n");
+    assert_eq!(owners(&format!("{open} 03 {INSTANCE}")), "refused 13 2\n");
+    // CDATA is no item of an attribute.
+    let attribute = format!("{open} 06 00020000");
+    assert_eq!(owners(&format!("{attribute} 05 00 03")), "owners 0 1 2 1\n");
+    assert_eq!(owners(&format!("{attribute} 07 0000 03")), "refused 13 2\n");
+    assert_eq!(owners(&format!("{open} 05 00")), "refused 13 1\n");
+}
+
+#[test]
+fn order_of_refusals() {
+    // 1 before all, the walk's before the grammar's, and 16 last.
+    let long = vec![0x10; 65537];
+    assert_eq!(answers(&case(b'O', 0, 0, 65537, &long)), "refused 1 0\n");
+    assert_eq!(owners("04 10"), "refused 9 2\n");
+    assert_eq!(owners("04 00 10"), "refused 13 0\n");
+    assert_eq!(call(4, 0, "04 10"), "answer 8900000000000002\nwords\n");
+    assert_eq!(call(4, 0, "04"), "answer 8d00000000000000\nwords\n");
+    assert_eq!(call(0, 0, "04"), "answer 9000000000000001\nwords\n");
+    let data = [&9_u32.to_le_bytes()[..], &long].concat();
+    let long = answers(&case(b'C', 0, u32::MAX, 0, &data));
+    assert!(long.starts_with("answer 8100000000000000\nwords ffffffffffffffff "));
+    let far = answers(&case(b'C', 4, u32::MAX, 0, &[0; 4]));
+    assert_eq!(far, "answer 82000000ffffffff\nwords\n");
+}
+
+#[test]
+fn levels() {
+    let open = "01 00000000 00020000";
+    let nested = |levels: usize| {
+        let (opens, closes) = (format!("{open} 02"), "04".repeat(levels));
+        owners(&(opens.repeat(levels) + &closes))
+    };
+    for levels in [65, 66, 100] {
+        assert_eq!(nested(levels), "refused 14 128\n");
+    }
+    assert!(nested(64).starts_with("owners 0 1 1 3 3 5 5 "));
+}
+
+#[test]
+fn sheets() {
+    let words = "2000000024000000 4000480004000000";
+    let enough = format!("answer 0000000000000002\nwords {words}\n");
+    assert_eq!(call(0, 2, ELEMENT), enough);
+    let more = format!("answer 0000000000000002\nwords {words} ffffffffffffffff\n");
+    assert_eq!(call(0, 3, ELEMENT), more);
+    let fewer = "answer 9000000000000002\nwords ffffffffffffffff\n";
+    assert_eq!(call(0, 1, ELEMENT), fewer);
+    // With a dependency: 11 bytes, none, 0 and 7.
+    let element = |dependency| call(1, 2, &format!("01 {dependency} 00000000 00020000 03 00"));
+    for (dependency, word) in [
+        ("FFFF", "200000002c000000"),
+        ("0000", "200000002c000200"),
+        ("0700", "200000002c001e00"),
+    ] {
+        let sheet = format!("answer 0000000000000002\nwords {word} 4000580004000000\n");
+        assert_eq!(element(dependency), sheet);
+    }
+    // A char ref, both substitutions, and a value that runs over: no grammar.
+    let sheet = call(0, 4, "08 FFFF 0D 0100 01 0E 0080 95 05 01 0200 4100 4200");
+    let words = [
+        0xc << 60 | 3 << 26 | 0xffff << 10,
+        0xd << 60 | 3 << 43 | 4 << 26 | 1 << 10,
+        0xd << 60 | 7 << 43 | 4 << 26 | 0x8000 << 10 | 1 << 9,
+        6_u64 << 60 | 11 << 43 | 8 << 26,
+    ];
+    let words: String = words.iter().map(|word| format!(" {word:016x}")).collect();
+    assert_eq!(sheet, format!("answer 0000000000000004\nwords{words}\n"));
+}
+
+#[test]
+fn owner_calls() {
+    let enough = "answer 0000000000000002\nwords 00000000 00000001\n";
+    assert_eq!(call(4, 2, ELEMENT), enough);
+    let more = "answer 0000000000000002\nwords 00000000 00000001 ffffffff ffffffff\n";
+    assert_eq!(call(4, 4, ELEMENT), more);
+    let fewer = "answer 9000000000000002\nwords ffffffff\n";
+    assert_eq!(call(4, 1, ELEMENT), fewer);
+    assert_eq!(call(4, 0, ELEMENT), "answer 9000000000000002\nwords\n");
+    let refused = "answer 8d00000000000000\nwords ffffffff ffffffff\n";
+    assert_eq!(call(4, 2, "03"), refused);
+}
+
+/// The longest stream: more words than 65,536 are never lent, and so many are the most that are needed.
+#[test]
+fn most_words() {
+    let text = "03".repeat(65536);
+    for room in [65536, 65537, u32::MAX] {
+        let sheet = call(0, room, &text);
+        assert!(sheet.starts_with("answer 0000000000010000\nwords 4000000004000000 "));
+        assert!(sheet.ends_with(" 47fff80004000000\n"));
+        assert_eq!(sheet.split_ascii_whitespace().count(), 3 + 65536);
+    }
+    let fewer = call(0, 65535, &text);
+    assert!(fewer.starts_with("answer 9000000000010000\nwords ffffffffffffffff "));
+    assert_eq!(owners(&text), "refused 13 0\n");
+}
+
+#[test]
+fn bad_cases() {
+    let short = case(b'C', 0, 0, 0, &[0; 3]);
+    assert_eq!(common::answers(&short, false), "bad case\n");
+}
