@@ -1,13 +1,42 @@
--- Document 01's sample streams that are to be proved, as lists with what each gives: the sheet's words or a refusal's number and place, and
--- what the owner table's call answers and leaves in a lent table. Offset names; start 0 and whole length unless said.
+-- Document 01's sample streams that are to be proved (marked P there), as one list. Offset names; start 0 and whole length unless said.
+use mathlib.Core.Path.{_≡_}
 use mathlib.Core.Bool.{Bool, true, false}
 use mathlib.Core.List.{List, [], _∷_}
 use Prim.Native.Nat.{ℕ}
+use lib.ListN.{length}
+use Rattle.cursor.specs.Answer.{Answer, given, refused}
+use Rattle.cursor.specs.Text.{unitsOf}
 use Rattle.cursor.specs.declared.Counted.{Counted}
 use Rattle.cursor.specs.declared.Counted.the-variants as C
+use Rattle.name.specs.Hash.{hashOf}
+use Rattle.value.specs.declared.Value.{Value}
+use Rattle.tokens.specs.Instance.{valueStep}
+use Rattle.tokens.specs.Single.{singleOf}
 use Rattle.tokens.specs.Walk.{Walked, ok, bad, walkOf}
+use Rattle.tokens.specs.declared.Held.{Held}
+use Rattle.tokens.specs.declared.Held.the-variants as H
+use Rattle.tokens.specs.declared.Single.{Single}
+use Rattle.tokens.specs.declared.Single.the-variants as S
+use Rattle.tokens.specs.declared.Token.{Token}
 use Rattle.sheet.specs.Sheet.{wordsOf}
 use Rattle.body.specs.Verdict.{Answered}
+
+-- a stream, and how it is read
+pub record Stream : Type 0 where
+  pub bytes : List ℕ
+  pub start : ℕ
+  pub len : ℕ
+  pub dependencies : Bool
+
+abbrev pub whole : List ℕ → Stream
+whole s = record { bytes = s; start = 0; len = length s; dependencies = false }
+
+-- "With dependency"
+abbrev pub withDependency : List ℕ → Stream
+withDependency s = record { bytes = s; start = 0; len = length s; dependencies = true }
+
+abbrev pub walkOn : Stream → Walked
+walkOn x = walkOf (x .bytes) (x .start) (x .len) (record { dependencies = x .dependencies; inline = false })
 
 -- what a walk gives: its sheet's words, or its refusal
 pub data Given : Type 0 where
@@ -18,77 +47,97 @@ abbrev pub givenOf : Walked → Given
 givenOf (ok l) = words (wordsOf l)
 givenOf (bad k p) = stopped k p
 
-pub record Sample : Type 0 where
-  pub bytes : List ℕ
-  pub start : ℕ
-  pub len : ℕ
-  pub dependencies : Bool
-  pub want : Given
+-- where the first value of the walk's first token starts, and where the next one would
+abbrev pub startOf : Answer Value → Answer ℕ
+startOf (given v next) = given (v .start) next
+startOf (refused k p) = refused k p
 
-abbrev pub walked : Sample → Given
-walked x = givenOf (walkOf (x .bytes) (x .start) (x .len) (record { dependencies = x .dependencies; inline = false }))
+abbrev pub heldValue : List ℕ → Held → Answer ℕ
+heldValue s (H.Instance i) = startOf (valueStep s (i .table) (i .values))
+heldValue s H.Nothing = refused 0 0
+heldValue s (H.Name n) = refused 0 0
+heldValue s (H.Text v) = refused 0 0
+heldValue s (H.Value v) = given (v .start) 0
 
-unfoldable pub samples : List Sample
-samples =
-    -- empty, length 0: read
-    record { bytes = []; start = 0; len = 0; dependencies = false; want = words ([]) } ∷
-    -- empty, length 1: 3 at 0
-    record { bytes = []; start = 0; len = 1; dependencies = false; want = stopped 3 0 } ∷
-    -- empty, start 1: 2 at 1
-    record { bytes = []; start = 1; len = 0; dependencies = false; want = stopped 2 1 } ∷
-    -- `10`: 9 at 1
-    record { bytes = 16 ∷ []; start = 0; len = 1; dependencies = false; want = stopped 9 1 } ∷
-    -- `01 00000000 00020000 03 00`: sheet 2000000024000000, 4000480004000000
-    record { bytes = 1 ∷ 0 ∷ 0 ∷ 0 ∷ 0 ∷ 0 ∷ 2 ∷ 0 ∷ 0 ∷ 3 ∷ 0 ∷ []; start = 0; len = 11; dependencies = false; want = words (0x2000000024000000 ∷ 0x4000480004000000 ∷ []) } ∷
-    -- with dependency and `FFFF` after 01: flag 0, number 0
-    record { bytes = 1 ∷ 255 ∷ 255 ∷ 0 ∷ 0 ∷ 0 ∷ 0 ∷ 0 ∷ 2 ∷ 0 ∷ 0 ∷ 3 ∷ 0 ∷ []; start = 0; len = 13; dependencies = true; want = words (0x200000002C000000 ∷ 0x4000580004000000 ∷ []) } ∷
-    -- with `0000`: flag 1
-    record { bytes = 1 ∷ 0 ∷ 0 ∷ 0 ∷ 0 ∷ 0 ∷ 0 ∷ 0 ∷ 2 ∷ 0 ∷ 0 ∷ 3 ∷ 0 ∷ []; start = 0; len = 13; dependencies = true; want = words (0x200000002C000200 ∷ 0x4000580004000000 ∷ []) } ∷
-    -- `05 01 0200 4100 4200`: read
-    record { bytes = 5 ∷ 1 ∷ 2 ∷ 0 ∷ 65 ∷ 0 ∷ 66 ∷ 0 ∷ []; start = 0; len = 8; dependencies = false; want = words (0x6000000020000000 ∷ []) } ∷
-    -- `0C 01 07000000 00020000 01000000 0200 0800 2A000000`: value at 18, walk at 22
-    record { bytes = 12 ∷ 1 ∷ 7 ∷ 0 ∷ 0 ∷ 0 ∷ 0 ∷ 2 ∷ 0 ∷ 0 ∷ 1 ∷ 0 ∷ 0 ∷ 0 ∷ 2 ∷ 0 ∷ 8 ∷ 0 ∷ 42 ∷ 0 ∷ 0 ∷ 0 ∷ []; start = 0; len = 22; dependencies = false; want = words (0x1000000058000000 ∷ []) } ∷
-    -- size 6: 24 bytes suffice
-    record { bytes = 12 ∷ 1 ∷ 7 ∷ 0 ∷ 0 ∷ 0 ∷ 0 ∷ 2 ∷ 0 ∷ 0 ∷ 1 ∷ 0 ∷ 0 ∷ 0 ∷ 6 ∷ 0 ∷ 8 ∷ 0 ∷ 42 ∷ 0 ∷ 0 ∷ 0 ∷ 0 ∷ 0 ∷ []; start = 0; len = 24; dependencies = false; want = words (0x1000000060000000 ∷ []) } ∷
-    -- with 23, 2 at 24
-    record { bytes = 12 ∷ 1 ∷ 7 ∷ 0 ∷ 0 ∷ 0 ∷ 0 ∷ 2 ∷ 0 ∷ 0 ∷ 1 ∷ 0 ∷ 0 ∷ 0 ∷ 6 ∷ 0 ∷ 8 ∷ 0 ∷ 42 ∷ 0 ∷ 0 ∷ 0 ∷ 0 ∷ []; start = 0; len = 23; dependencies = false; want = stopped 2 24 } ∷
-    -- size 3, type 86: 10 at 18
-    record { bytes = 12 ∷ 1 ∷ 7 ∷ 0 ∷ 0 ∷ 0 ∷ 0 ∷ 2 ∷ 0 ∷ 0 ∷ 1 ∷ 0 ∷ 0 ∷ 0 ∷ 3 ∷ 0 ∷ 134 ∷ 0 ∷ 42 ∷ 0 ∷ 0 ∷ 0 ∷ []; start = 0; len = 22; dependencies = false; want = stopped 10 18 } ∷
-    []
+abbrev pub firstValue : List ℕ → Walked → Answer ℕ
+firstValue s (ok []) = refused 0 0
+firstValue s (ok (t ∷ l)) = heldValue s (t .held)
+firstValue s (bad k p) = refused k p
 
--- a stream as a body: what the call answers, and what it leaves of the table it was lent
-pub record BodySample : Type 0 where
-  pub bytes : List ℕ
-  pub start : ℕ
-  pub len : ℕ
-  pub lent : List ℕ
-  pub answer : Counted
-  pub left : List ℕ
+pub data Sample : Type 0 where
+  -- read, with its sheet, or refused
+  reads : Stream → Given → Sample
+  -- "as a body": the lent table, the answer, and what is left of the table
+  bodies : Stream → List ℕ → Counted → List ℕ → Sample
+  -- "value at", "walk at"
+  values : Stream → ℕ → ℕ → Sample
+  -- "hash": of the units of these bytes
+  hashes : List ℕ → ℕ → Sample
+  -- "single instance offset"
+  singles : List ℕ → Single → Sample
 
-abbrev pub walkOfBody : BodySample → Walked
-walkOfBody x = walkOf (x .bytes) (x .start) (x .len) (record { dependencies = false; inline = false })
+abbrev pub Holds : Sample → Type 0
+Holds (reads x want) = givenOf (walkOn x) ≡ want
+Holds (bodies x lent answer left) = Answered lent left (walkOn x) answer
+Holds (values x at next) = firstValue (x .bytes) (walkOn x) ≡ given at next
+Holds (hashes s h) = hashOf (unitsOf s) ≡ h
+Holds (singles s r) = singleOf s ≡ r
 
-abbrev pub Holds : BodySample → Type 0
-Holds x = Answered (x .lent) (x .left) (walkOfBody x) (x .answer)
-
-abbrev pub All : List BodySample → Type 0
+abbrev pub All : List Sample → Type 0
 All [] = Unit {0}
 All (x ∷ l) = Holds x × All l
 
-unfoldable pub bodies : List BodySample
-bodies =
-    -- empty, length 0: "as a body 15 at 0"
-    record { bytes = []; start = 0; len = 0; lent = 9 ∷ []; answer = C.Refused (record { number = 15; place = 0 }); left = 9 ∷ [] } ∷
-    -- empty, length 1: 3 at 0
-    record { bytes = []; start = 0; len = 1; lent = 9 ∷ []; answer = C.Refused (record { number = 3; place = 0 }); left = 9 ∷ [] } ∷
-    -- empty, start 1: 2 at 1
-    record { bytes = []; start = 1; len = 0; lent = []; answer = C.Refused (record { number = 2; place = 1 }); left = [] } ∷
-    -- `01 00000000 00020000 03 00`: "owners 0, 1"; the words past them stay
-    record { bytes = 1 ∷ 0 ∷ 0 ∷ 0 ∷ 0 ∷ 0 ∷ 2 ∷ 0 ∷ 0 ∷ 3 ∷ 0 ∷ []; start = 0; len = 11; lent = 9 ∷ 9 ∷ 9 ∷ []; answer = C.Count 2; left = 0 ∷ 1 ∷ 9 ∷ [] } ∷
-    -- that with a table of one word: 16, two words needed
-    record { bytes = 1 ∷ 0 ∷ 0 ∷ 0 ∷ 0 ∷ 0 ∷ 2 ∷ 0 ∷ 0 ∷ 3 ∷ 0 ∷ []; start = 0; len = 11; lent = 9 ∷ []; answer = C.Refused (record { number = 16; place = 2 }); left = 9 ∷ [] } ∷
-    -- `05 01 0200 4100 4200`: "as a body 13 at 0"
-    record { bytes = 5 ∷ 1 ∷ 2 ∷ 0 ∷ 65 ∷ 0 ∷ 66 ∷ 0 ∷ []; start = 0; len = 8; lent = 9 ∷ []; answer = C.Refused (record { number = 13; place = 0 }); left = 9 ∷ [] } ∷
-    -- `0C 01 07000000 00020000 01000000 0200 0800 2A000000`: an instance has no owner
-    record { bytes = 12 ∷ 1 ∷ 7 ∷ 0 ∷ 0 ∷ 0 ∷ 0 ∷ 2 ∷ 0 ∷ 0 ∷ 1 ∷ 0 ∷ 0 ∷ 0 ∷ 2 ∷ 0 ∷ 8 ∷ 0 ∷ 42 ∷ 0 ∷ 0 ∷ 0 ∷ []; start = 0; len = 22; lent = 9 ∷ []; answer = C.Count 1; left = 0 ∷ [] } ∷
+abbrev refusedBody : ℕ → ℕ → Counted
+refusedBody k p = C.Refused (record { number = k; place = p })
+
+-- `01 00000000 00020000 03 00`
+abbrev pub emptyElement : List ℕ
+emptyElement = 0x01 ∷ 0 ∷ 0 ∷ 0 ∷ 0 ∷ 0 ∷ 2 ∷ 0 ∷ 0 ∷ 0x03 ∷ 0 ∷ []
+
+-- `05 01 0200 4100 4200`
+abbrev pub loneValue : List ℕ
+loneValue = 0x05 ∷ 0x01 ∷ 2 ∷ 0 ∷ 0x41 ∷ 0 ∷ 0x42 ∷ 0 ∷ []
+
+-- `0C 01 07000000 00020000 01000000 0200 0800 2A000000`, with another size and type, and so many bytes after them
+abbrev pub anInstance : ℕ → ℕ → List ℕ → List ℕ
+anInstance size code data′ =
+    0x0C ∷ 1 ∷ 7 ∷ 0 ∷ 0 ∷ 0 ∷ 0 ∷ 2 ∷ 0 ∷ 0 ∷ 1 ∷ 0 ∷ 0 ∷ 0 ∷ size ∷ 0 ∷ code ∷ 0 ∷ data′
+
+unfoldable pub samples : List Sample
+samples =
+    -- "empty, length 0: read; as a body 15 at 0"
+    reads (whole []) (words []) ∷
+    bodies (whole []) (9 ∷ []) (refusedBody 15 0) (9 ∷ []) ∷
+    -- "empty, length 1: 3 at 0"
+    reads (record { bytes = []; start = 0; len = 1; dependencies = false }) (stopped 3 0) ∷
+    bodies (record { bytes = []; start = 0; len = 1; dependencies = false }) (9 ∷ []) (refusedBody 3 0) (9 ∷ []) ∷
+    -- "empty, start 1: 2 at 1"
+    reads (record { bytes = []; start = 1; len = 0; dependencies = false }) (stopped 2 1) ∷
+    -- "`10`: 9 at 1"
+    reads (whole (0x10 ∷ [])) (stopped 9 1) ∷
+    -- "sheet 2000000024000000, 4000480004000000; owners 0, 1": and a word past them stays; with one word lent, 16 with two needed
+    reads (whole emptyElement) (words (0x2000000024000000 ∷ 0x4000480004000000 ∷ [])) ∷
+    bodies (whole emptyElement) (9 ∷ 9 ∷ 9 ∷ []) (C.Count 2) (0 ∷ 1 ∷ 9 ∷ []) ∷
+    bodies (whole emptyElement) (9 ∷ []) (refusedBody 16 2) (9 ∷ []) ∷
+    -- "With dependency and `FFFF` after 01: flag 0, number 0; with `0000`: flag 1."
+    reads (withDependency (0x01 ∷ 0xFF ∷ 0xFF ∷ 0 ∷ 0 ∷ 0 ∷ 0 ∷ 0 ∷ 2 ∷ 0 ∷ 0 ∷ 0x03 ∷ 0 ∷ [])) (words (0x200000002C000000 ∷ 0x4000580004000000 ∷ [])) ∷
+    reads (withDependency (0x01 ∷ 0 ∷ 0 ∷ 0 ∷ 0 ∷ 0 ∷ 0 ∷ 0 ∷ 2 ∷ 0 ∷ 0 ∷ 0x03 ∷ 0 ∷ [])) (words (0x200000002C000200 ∷ 0x4000580004000000 ∷ [])) ∷
+    -- "read; as a body 13 at 0"
+    reads (whole loneValue) (words (0x6000000020000000 ∷ [])) ∷
+    bodies (whole loneValue) (9 ∷ []) (refusedBody 13 0) (9 ∷ []) ∷
+    -- "inline `41 00` `42 00`: hash 1041"
+    hashes (0x41 ∷ 0 ∷ 0x42 ∷ 0 ∷ []) 0x1041 ∷
+    -- "value at 18, walk at 22"; as a body it has no owner
+    reads (whole (anInstance 2 0x08 (0x2A ∷ 0 ∷ 0 ∷ 0 ∷ []))) (words (0x1000000058000000 ∷ [])) ∷
+    values (whole (anInstance 2 0x08 (0x2A ∷ 0 ∷ 0 ∷ 0 ∷ []))) 18 22 ∷
+    bodies (whole (anInstance 2 0x08 (0x2A ∷ 0 ∷ 0 ∷ 0 ∷ []))) (9 ∷ []) (C.Count 1) (0 ∷ []) ∷
+    -- "Size 6: 24 bytes suffice; with 23, 2 at 24."
+    reads (whole (anInstance 6 0x08 (0x2A ∷ 0 ∷ 0 ∷ 0 ∷ 0 ∷ 0 ∷ []))) (words (0x1000000060000000 ∷ [])) ∷
+    reads (whole (anInstance 6 0x08 (0x2A ∷ 0 ∷ 0 ∷ 0 ∷ 0 ∷ []))) (stopped 2 24) ∷
+    -- "that with size 3, type 86: 10 at 18"
+    reads (whole (anInstance 3 0x86 (0x2A ∷ 0 ∷ 0 ∷ 0 ∷ []))) (stopped 10 18) ∷
+    -- "single instance offset: `0F 01 01 00 0C` none; a sixth byte: 5; `0C`: 1"
+    singles (0x0F ∷ 1 ∷ 1 ∷ 0 ∷ 0x0C ∷ []) S.Nothing ∷
+    singles (0x0F ∷ 1 ∷ 1 ∷ 0 ∷ 0x0C ∷ 0 ∷ []) (S.At 5) ∷
+    singles (0x0C ∷ []) (S.At 1) ∷
     []
