@@ -5,10 +5,12 @@ use Prim.Native.Nat.{ℕ, _+_, _≤_, _<_}
 use native.Mathlib.Nat.{zero-add}
 use native.Mathlib.Omega.{arith}
 use borrow.Author.Tests.{le-leb, lt-leb}
-use lib.ListN.{length, drop}
-use lib.Seq.{sets, sets-eq}
+use lib.ListN.{length, take, drop}
+use lib.Seq.{sets, sets-eq, length-sets}
+use Rattle.cursor.specs.Lent.{laid}
 use Rattle.cursor.specs.Refusals.{noRoom}
 use Rattle.cursor.specs.declared.Refusal.{Refusal}
+use Rattle.sheet.proofs.Laying.{front}
 use Rattle.body.specs.Verdict.{deepest}
 use Rattle.body.specs.Reader.{begin, Out, accepted, outcome, wordsFrom, walk, refusedBy, wholeOf, judgedOf, tableOf}
 use Rattle.cursor.specs.declared.Counted.the-variants as C
@@ -49,7 +51,22 @@ module _ (t : List ℕ) where
               ∙ rw (le-leb (length words) (length table) (omega (arith, n))),
         )
 
-  -- and where it has none
+    -- the words stand at the front of a table that has room
+    pub stands : outcome deepest begin 0 t ≡ accepted → length t ≤ length left → take (length t) left ≡ words
+    stands a h =
+        let n = words-length deepest t begin 0 a in
+        let k : length left ≡ length table = ap length whole-table ∙ length-sets table 0 words in
+        let b : length words ≤ length table = omega (arith, n, k) in
+        ap (take (length t)) whole-table ∙ ap (λ (i : ℕ). take i (sets table 0 words)) (sym n) ∙ front table words b
+
+  -- what is answered of a body whose words were copied
+  pub copied : (front′ left table : List ℕ) → outcome deepest begin 0 t ≡ accepted → length t ≤ length table → front′ ≡ words → left ≡ laid front′ table
+      → (C.Count (length t) ≡ judgedOf accepted (length t) (length table)) × (left ≡ tableOf accepted words table)
+  copied front′ left table a h q k =
+      let n = words-length deepest t begin 0 a in
+      (rw (le-leb (length t) (length table) h), k ∙ ap (λ (w : List ℕ). laid w table) q ∙ rw (le-leb (length words) (length table) (omega (arith, n))))
+
+  -- and where it has no room
   pub no-room : (table : List ℕ) → outcome deepest begin 0 t ≡ accepted → length table < length t
       → (C.Refused (record { number = noRoom; place = length t }) ≡ judgedOf accepted (length t) (length table)) × (table ≡ tableOf accepted words table)
   no-room table a h =

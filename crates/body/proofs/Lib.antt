@@ -7,5 +7,4 @@ pub mod One
 pub mod Answers
 pub mod Samples
 pub mod Walking
-pub mod Noting
 pub mod Filling

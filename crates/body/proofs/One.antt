@@ -8,8 +8,9 @@ use lib.ListN.{length, take, drop, take-append-drop}
 use lib.Seq.{take-add}
 use Rattle.cursor.specs.Lent.{laid}
 use Rattle.tokens.specs.Walk.{Walked, ok, bad}
+use Rattle.sheet.specs.Sheet.{kindsOf}
 use Rattle.body.specs.Grammar.{Reading}
-use Rattle.body.specs.Verdict.{Begins, NoBody, TooDeep, Unfinished, Refuses, no-body, too-deep, unfinished-body, kindsOf, Answered, unread, refused, no-room, a-body}
+use Rattle.body.specs.Verdict.{Begins, NoBody, TooDeep, Unfinished, Refuses, no-body, too-deep, unfinished-body, Answered, unread, refused, no-room, a-body}
 use Rattle.cursor.specs.declared.Counted.{Counted}
 use Rattle.cursor.specs.declared.Counted.the-variants as C
 use Rattle.body.proofs.Agree.{one-table}

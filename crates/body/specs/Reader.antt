@@ -3,7 +3,8 @@
 use mathlib.Core.Path.{_≡_}
 use mathlib.Core.Bool.{Bool, true, false, _||_}
 use mathlib.Core.List.{List, [], _∷_}
-use Prim.Native.Nat.{ℕ, suc, _+_, _≤_, _<_}
+use mathlib.Core.Logic.{_⊎_}
+use Prim.Native.Nat.{ℕ, suc, _-_, _≤_, _<_}
 use lib.Dec.{eqb, leb, ltb}
 use lib.ListN.{length, take, drop, set}
 use lib.Seq.{sets}
@@ -12,10 +13,7 @@ use Rattle.cursor.specs.Lent.{laid}
 use Rattle.cursor.specs.Refusals.{noBody, tooDeep, unfinished, noRoom}
 use Rattle.cursor.specs.declared.Refusal.{Refusal}
 use Rattle.tokens.specs.Token.{instanceKind, openKind, closeStartKind, closeEmptyKind, closeElementKind, valueKind, attributeKind, entityRefKind, piTargetKind, piDataKind, cdataKind, charRefKind, substitutionKind}
-use Rattle.tokens.specs.Walk.{ok, walkAt}
-use Rattle.tokens.specs.declared.Flags.{Flags}
-use Rattle.tokens.specs.declared.Token.{Token}
-use Rattle.body.specs.Verdict.{deepest, kindsOf}
+use Rattle.body.specs.Verdict.{deepest}
 use Rattle.cursor.specs.declared.Counted.{Counted}
 use Rattle.cursor.specs.declared.Counted.the-variants as C
 use Rattle.body.specs.declared.reader.Read.{Read}
@@ -161,6 +159,10 @@ abbrev pub tableOf : Out → List ℕ → List ℕ → List ℕ
 tableOf accepted words lent = pick (leb (length words) (length lent)) (laid words lent) lent
 tableOf (refused k p) words lent = lent
 
--- the kinds of a walk's tokens stand at the front of a buffer
-abbrev pub Noted : List ℕ → ℕ → Flags → ℕ → List ℕ → Type 0
-Noted s end f start kinds = (l : List Token) → walkAt s end f start ≡ ok l → take (length l) kinds ≡ kindsOf l
+-- at most m bytes are left from the start on, or at most m places where a token may begin
+abbrev pub Few : List ℕ → ℕ → ℕ → ℕ → Type 0
+Few s start end m = (length s - start ≤ m) ⊎ (end - start ≤ m)
+
+-- where there is room for the words of a body they stand at the front
+abbrev pub Noted : List ℕ → List ℕ → Type 0
+Noted kinds words = length kinds ≤ length words → take (length kinds) words ≡ wordsFrom deepest begin 0 kinds

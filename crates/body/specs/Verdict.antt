@@ -1,13 +1,14 @@
 -- What accepting and refusing say, by the grammar alone. Document 01, "Refusals and their places" 13 to 16.
 use mathlib.Core.Path.{_≡_}
-use mathlib.Core.List.{List, _++_, map}
+use mathlib.Core.List.{List, _++_}
 use Prim.Native.Nat.{ℕ, suc, _≤_, _<_}
 use lib.ListN.{length, take, getD}
 use Rattle.cursor.specs.Lent.{laid}
 use Rattle.cursor.specs.Refusals.{noBody, tooDeep, unfinished, noRoom}
 use Rattle.tokens.specs.Token.{openKind}
 use Rattle.tokens.specs.Walk.{Walked, ok, bad}
-use Rattle.tokens.specs.declared.Token as token
+use Rattle.tokens.specs.declared.Token.{Token}
+use Rattle.sheet.specs.Sheet.{kindsOf}
 use Rattle.body.specs.Grammar.{Reading}
 use Rattle.cursor.specs.declared.Counted.{Counted}
 use Rattle.cursor.specs.declared.Counted.the-variants as C
@@ -48,17 +49,13 @@ pub data Refuses (kinds : List ℕ) : ℕ → ℕ → Type 0 where
   too-deep : (i : ℕ) → TooDeep kinds i → Refuses kinds tooDeep i
   unfinished-body : Unfinished kinds → Refuses kinds unfinished (length kinds)
 
--- the kinds of a walk's tokens
-abbrev pub kindsOf : List token.Token → List ℕ
-kindsOf l = map (λ (t : token.Token). t .kind) l
-
 -- What the call answers for a walk and a lent table, and what it leaves in the table. "A refusal writes nothing. Order: 1; then the walk's,
 -- first met; then 13, 14 or 15; then 16."
 pub data Answered (lent left : List ℕ) : Walked → Counted → Type 0 where
   unread : (k p : ℕ) → left ≡ lent → Answered lent left (bad k p) (C.Refused (record { number = k; place = p }))
-  refused : (l : List token.Token) (k p : ℕ) → Refuses (kindsOf l) k p → left ≡ lent
+  refused : (l : List Token) (k p : ℕ) → Refuses (kindsOf l) k p → left ≡ lent
       → Answered lent left (ok l) (C.Refused (record { number = k; place = p }))
-  no-room : (l : List token.Token) (words : List ℕ) → Reading deepest (kindsOf l) words → length lent < length l → left ≡ lent
+  no-room : (l : List Token) (words : List ℕ) → Reading deepest (kindsOf l) words → length lent < length l → left ≡ lent
       → Answered lent left (ok l) (C.Refused (record { number = noRoom; place = length l }))
-  a-body : (l : List token.Token) (words : List ℕ) → Reading deepest (kindsOf l) words → length l ≤ length lent → left ≡ laid words lent
+  a-body : (l : List Token) (words : List ℕ) → Reading deepest (kindsOf l) words → length l ≤ length lent → left ≡ laid words lent
       → Answered lent left (ok l) (C.Count (length l))

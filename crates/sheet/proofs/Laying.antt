@@ -1,23 +1,23 @@
--- The words of a walk, laid over lent words one after the other. Assumes nothing.
+-- The words of a walk, laid over a lent sheet. Assumes nothing.
 use mathlib.Core.Path.{_≡_, refl, sym, ap, subst, _∙_}
-use mathlib.Core.Bool.{Bool, true, false}
-use mathlib.Core.List.{List, [], _∷_, _++_, map, append-nil, append-assoc}
-use Prim.Native.Nat.{ℕ, zero, suc, _+_, _*_, _≤_, _<_}
+use mathlib.Core.List.{List, [], _∷_, _++_, map}
+use Prim.Native.Nat.{ℕ, suc, _+_, _-_, _*_, _≤_, _<_}
 use native.Mathlib.Omega.{arith}
 use borrow.Author.Tests.{le-leb, lt-leb}
-use lib.ListN.{length, drop, set, getD, length-append, length-drop, length-map}
-use lib.Seq.{drop-cons, set-append-seam, append-snoc}
 use lib.Dec.{leb}
-use Rattle.cursor.specs.Answer.{Answer, given, refused, pick}
-use Rattle.cursor.specs.Refusals.{noRoom}
+use lib.ListN.{length, getD, take, drop, set, length-append, length-drop, length-map, length-take}
+use lib.Seq.{sets, sets-eq, length-sets, take-at, take-all, take-suc, length-take-le, drop-cons, set-append-seam, append-snoc}
+use Rattle.cursor.specs.Answer.{pick}
 use Rattle.cursor.specs.Lent.{laid}
+use Rattle.cursor.specs.Refusals.{wrongLength, pastEnd, noRoom}
+use Rattle.cursor.specs.declared.Counted.{Counted}
+use Rattle.cursor.specs.declared.Counted.the-variants as C
 use Rattle.cursor.specs.declared.Refusal.{Refusal}
-use Rattle.tokens.specs.Walk.{Met, handed, header, over, Walked, ok, bad, before, after, stepAt, walkFrom, walkAt, walkOf, countedOf}
+use Rattle.tokens.specs.Walk.{Walked, ok, bad, walkAt, walkOf, countedOf}
 use Rattle.tokens.specs.declared.Flags.{Flags}
 use Rattle.tokens.specs.declared.Token.{Token}
-use Rattle.cursor.specs.declared.Counted.the-variants as C
-use Rattle.tokens.proofs.Steps.{walk-token, walk-is}
-use Rattle.sheet.specs.Sheet.{wordOf, wordsOf, sheetAnswer, sheetWords, RoomFor, WalkLaid}
+use Rattle.sheet.specs.Sheet.{wordsOf, sheetAnswer, sheetWords, laidAnswer, laidWords, readAt}
+use Rattle.sheet.proofs.Noting.{read-all, read-short, read-within}
 
 -- one word more
 laid-store : (words lent : List ℕ) (a : ℕ) → length words < length lent → set (laid words lent) (length words) a ≡ laid (words ++ (a ∷ [])) lent
@@ -28,139 +28,134 @@ laid-store words lent a h =
     ap (λ (l : List ℕ). set (words ++ l) n a) e ∙ set-append-seam words (getD lent n 0) (drop (suc n) lent) a
     ∙ sym (append-snoc words a (drop (suc n) lent)) ∙ ap (λ (k : ℕ). words ++ (a ∷ []) ++ drop k lent) (sym m)
 
-laid-length : (words lent : List ℕ) → length words ≤ length lent → length (laid words lent) ≡ length lent
-laid-length words lent h = omega (arith, length-append words (drop (length words) lent), length-drop (length words) lent)
+module _ (words lent : List ℕ) (room : length words ≤ length lent) (i : ℕ) where
+  -- the first i words are laid, and then one more
+  pub laid-next : (sheet : List ℕ) → i < length words → sheet ≡ laid (take i words) lent → set sheet i (getD words i 0) ≡ laid (take (i + 1) words) lent
+  laid-next sheet h e =
+      let k : length (take i words) ≡ i = length-take-le i words (omega arith) in
+      let m : suc i ≡ i + 1 = omega arith in
+      let q : length (take i words) < length lent = omega (arith, k) in
+      ap (λ (x : List ℕ). set x i (getD words i 0)) e ∙ ap (λ (j : ℕ). set (laid (take i words) lent) j (getD words i 0)) (sym k)
+      ∙ laid-store (take i words) lent (getD words i 0) q ∙ ap (λ (x : List ℕ). laid x lent) (sym (take-suc words i 0 h) ∙ ap (λ (j : ℕ). take j words) m)
 
-words-more : (l : List Token) (t : Token) → wordsOf (l ++ (t ∷ [])) ≡ wordsOf l ++ (wordOf t ∷ [])
-words-more [] t = refl
-words-more (x ∷ l) t = ap (λ (r : List ℕ). wordOf x ∷ r) (words-more l t)
+  pub laid-kept : (sheet : List ℕ) → i ≤ length words → sheet ≡ laid (take i words) lent → length sheet ≡ length lent
+  laid-kept sheet h e =
+      let k : length (take i words) ≡ i = length-take-le i words h in
+      omega (arith, ap length e, k, length-append (take i words) (drop (length (take i words)) lent), length-drop (length (take i words)) lent)
 
--- a walk that is read and begins with a token
-before-ok : (t : Token) (w : Walked) (l : List Token) → before t w ≡ ok l → (r : List Token) × ((l ≡ t ∷ r) × (w ≡ ok r))
-before-ok t (ok r) l e = (r, (cc, refl))
-before-ok t (bad k p) l e = let z : _≡_ {A = ℕ} 0 1 = cc in absurd (omega arith)
+  pub laid-whole : (sheet : List ℕ) → i ≡ length words → sheet ≡ laid (take i words) lent → sheet ≡ laid words lent
+  laid-whole sheet h e = e ∙ ap (λ (x : List ℕ). laid x lent) (take-all i words (omega arith))
 
--- the words of the first n tokens are laid, and the walk stands at `at`
-pub record Written (s : List ℕ) (end : ℕ) (f : Flags) (start : ℕ) (lent : List ℕ) (at n : ℕ) (words : List ℕ) : Type 0 where
-  pub whole : List Token
-  pub done : List Token
-  pub rest : List Token
-  pub read : walkAt s end f start ≡ ok whole
-  pub fits : length whole ≤ length lent
-  pub split : whole ≡ done ++ rest
-  pub on : walkAt s end f at ≡ ok rest
-  pub count : n ≡ length done
-  pub so : words ≡ laid (wordsOf done) lent
+  pub laid-all : (sheet : List ℕ) → i ≡ length words → sheet ≡ laid (take i words) lent → (C.Count (length words) ≡ laidAnswer words lent) × (sheet ≡ laidWords words lent)
+  laid-all sheet h e =
+      let b = le-leb (length words) (length lent) room in
+      (rw b, laid-whole sheet h e ∙ rw b)
 
-module _ (s : List ℕ) (end : ℕ) (f : Flags) (start : ℕ) (lent : List ℕ) where
-  pub written-start : RoomFor s end f start lent → Written s end f start lent start 0 lent
-  written-start r =
-      record {
-        whole = r .0;
-        done = [];
-        rest = r .0;
-        read = r .1 .0;
-        fits = r .1 .1;
-        split = refl;
-        on = r .1 .0;
-        count = refl;
-        so = refl;
-      }
-
-  module _ (at n : ℕ) (words : List ℕ) (g : Written s end f start lent at n words) where
-    lengths : length (g .whole) ≡ length (g .done) + length (g .rest)
-    lengths = ap length (g .split) ∙ length-append (g .done) (g .rest)
-
-    -- the lent words keep their length
-    pub kept : length words ≡ length lent
-    kept = ap length (g .so) ∙ laid-length (wordsOf (g .done)) lent (omega (arith, lengths, g .fits, length-map (g .done) wordOf))
-
-    next : (t : Token) (m : ℕ) → stepAt s end f at ≡ given (handed t) m → (r : List Token) × ((g .rest ≡ t ∷ r) × (walkAt s end f m ≡ ok r))
-    next t m e = before-ok t (walkAt s end f m) (g .rest) (sym (walk-token s end f at m t e) ∙ g .on)
-
-    pub has-room : (t : Token) (m : ℕ) → stepAt s end f at ≡ given (handed t) m → n < length lent
-    has-room t m e = let y = next t m e in omega (arith, lengths, g .fits, g .count, ap length (y .1 .0))
-
-    pub written-next : (t : Token) (m : ℕ) → stepAt s end f at ≡ given (handed t) m → Written s end f start lent m (n + 1) (set words n (wordOf t))
-    written-next t m e =
-        let y = next t m e in
-        let k : length (wordsOf (g .done)) ≡ n = length-map (g .done) wordOf ∙ sym (g .count) in
-        record {
-          whole = g .whole;
-          done = g .done ++ (t ∷ []);
-          rest = y .0;
-          read = g .read;
-          fits = g .fits;
-          split = g .split ∙ ap (λ (l : List Token). g .done ++ l) (y .1 .0) ∙ sym (append-assoc (g .done) (t ∷ []) (y .0));
-          on = y .1 .1;
-          count = omega (arith, g .count, length-append (g .done) (t ∷ []));
-          so =
-              ap (λ (l : List ℕ). set l n (wordOf t)) (g .so)
-              ∙ ap (λ (i : ℕ). set (laid (wordsOf (g .done)) lent) i (wordOf t)) (sym k)
-              ∙ laid-store (wordsOf (g .done)) lent (wordOf t) (omega (arith, has-room t m e))
-              ∙ ap (λ (l : List ℕ). laid l lent) (sym (words-more (g .done) t));
-        }
-
-    pub written-last : (m : ℕ) → stepAt s end f at ≡ given over m → WalkLaid s end f start lent words
-    written-last m e l r =
-        let a : ok (g .rest) ≡ ok [] = sym (g .on) ∙ walk-is s end f at (given over m) e in
-        let b : g .rest ≡ [] = cc in
-        let c : ok l ≡ ok (g .whole) = sym r ∙ g .read in
-        let d : l ≡ g .whole = cc in
-        g .so ∙ ap (λ (x : List Token). laid (wordsOf x) lent)
-        (sym (d ∙ g .split ∙ ap (λ (x : List Token). g .done ++ x) b ∙ append-nil (g .done)))
-
-    pub never-refused : (k p : ℕ) → stepAt s end f at ≡ refused k p → ⊥
-    never-refused k p e =
-        let a : ok (g .rest) ≡ bad k p = sym (g .on) ∙ walk-is s end f at (refused k p) e in
-        let z : _≡_ {A = ℕ} 0 1 = cc in
-        omega arith
+pub laid-none : (words lent : List ℕ) → length lent < length words
+    → (C.Refused (record { number = noRoom; place = length words }) ≡ laidAnswer words lent) × (lent ≡ laidWords words lent)
+laid-none words lent h = let b = lt-leb (length words) (length lent) h in (rw b, rw b)
 
 -- a walk that has n tokens
-counted-is : (w : Walked) (n : ℕ) → countedOf w ≡ C.Count n → (l : List Token) × ((w ≡ ok l) × (length l ≡ n))
+pub counted-is : (w : Walked) (n : ℕ) → countedOf w ≡ C.Count n → (l : List Token) × ((w ≡ ok l) × (length l ≡ n))
 counted-is (ok l) n e = (l, (refl, cc))
 counted-is (bad k p) n e = let z : _≡_ {A = ℕ} 0 1 = cc in absurd (omega arith)
-
-module _ (l : List Token) (lent : List ℕ) (n : ℕ) (e : length l ≡ n) where
-  short-of : length lent < n → (C.Refused (record { number = noRoom; place = n }) ≡ sheetAnswer (ok l) lent) × (lent ≡ sheetWords (ok l) lent)
-  short-of h =
-      let b = lt-leb (1 * length l) (length lent) (omega arith) in
-      let m : n ≡ 1 * length l = omega arith in
-      (ap (λ (k : ℕ). C.Refused (record { number = noRoom; place = k })) m ∙ rw b, rw b)
-
-  there-of : n ≤ length lent → (words : List ℕ) → words ≡ laid (wordsOf l) lent → (C.Count n ≡ sheetAnswer (ok l) lent) × (words ≡ sheetWords (ok l) lent)
-  there-of h words k =
-      let b = le-leb (1 * length l) (length lent) (omega arith) in
-      (ap C.Count (sym e) ∙ rw b, k ∙ rw b)
-
-module _ (w : Walked) (lent : List ℕ) (n : ℕ) (c : countedOf w ≡ C.Count n) where
-  pub list-of : (l : List Token) × ((w ≡ ok l) × (length l ≡ n))
-  list-of = counted-is w n c
-
-  pub too-short : length lent < n → (C.Refused (record { number = noRoom; place = n }) ≡ sheetAnswer w lent) × (lent ≡ sheetWords w lent)
-  too-short h =
-      let y = list-of in
-      subst (λ (v : Walked). (C.Refused (record { number = noRoom; place = n }) ≡ sheetAnswer v lent) × (lent ≡ sheetWords v lent)) (sym (y .1 .0))
-      (short-of (y .0) lent n (y .1 .1) h)
-
-  pub all-there : n ≤ length lent → (words : List ℕ) → ((l : List Token) → w ≡ ok l → words ≡ laid (wordsOf l) lent)
-      → (C.Count n ≡ sheetAnswer w lent) × (words ≡ sheetWords w lent)
-  all-there h words k =
-      let y = list-of in
-      subst (λ (v : Walked). (C.Count n ≡ sheetAnswer v lent) × (words ≡ sheetWords v lent)) (sym (y .1 .0))
-      (there-of (y .0) lent n (y .1 .1) h words (k (y .0) (y .1 .0)))
-
--- a walk that was read is the walk from its start
-read-at : (b c : Bool) (v w : Walked) (k p m q : ℕ) (l : List Token) → pick b (pick c v (bad k p)) (bad m q) ≡ ok l → v ≡ ok l
-read-at true true v w k p m q l e = e
-read-at true false v w k p m q l e = let z : _≡_ {A = ℕ} 0 1 = cc in absurd (omega arith)
-read-at false c v w k p m q l e = let z : _≡_ {A = ℕ} 0 1 = cc in absurd (omega arith)
-
-pub walk-at : (s : List ℕ) (start len : ℕ) (f : Flags) (l : List Token) → walkOf s start len f ≡ ok l → walkAt s (start + len) f start ≡ ok l
-unfolding walkOf
-walk-at s start len f l e = read-at (leb (length s) 65536) (leb start (length s)) (walkAt s (start + len) f start) (ok []) _ _ _ _ l e
 
 -- a walk that is refused
 pub walk-refused : (w : Walked) (lent : List ℕ) (r : Refusal) → countedOf w ≡ C.Refused r → (C.Refused r ≡ sheetAnswer w lent) × (lent ≡ sheetWords w lent)
 walk-refused (ok l) lent r e = let z : _≡_ {A = ℕ} 0 1 = cc in absurd (omega arith)
 walk-refused (bad k p) lent r e = (let y : r ≡ record { number = k; place = p } = cc in ap C.Refused y, refl)
+
+-- words set from the front on stand at the front
+pub front : (lent words : List ℕ) → length words ≤ length lent → take (length words) (sets lent 0 words) ≡ words
+front lent words h =
+    let b : 0 + length words ≤ length lent = omega arith in
+    ap (take (length words)) (sets-eq words lent 0 b) ∙ take-at words (drop (0 + length words) lent) (length words) refl
+
+-- a walk of n tokens whose numbers were noted in a buffer
+module _ (s : List ℕ) (end : ℕ) (f : Flags) (start n : ℕ) (c : countedOf (walkAt s end f start) ≡ C.Count n) where
+  pub all-read : (l : List Token) × ((walkAt s end f start ≡ ok l) × (readAt s end f start ≡ l) × (length l ≡ n))
+  all-read =
+      let y = counted-is (walkAt s end f start) n c in
+      (y .0, (y .1 .0, read-all s end f start (y .0) (y .1 .0), y .1 .1))
+
+  -- there are no more tokens than bytes from the start on, nor than places where one may begin
+  pub few-tokens : (n ≤ length s - start) × (n ≤ end - start)
+  few-tokens =
+      let y = all-read in (
+        omega (arith, y .1 .2, ap length (y .1 .1), read-short s end f start),
+        omega (arith, y .1 .2, ap length (y .1 .1), read-within s end f start),
+      )
+
+  pub noted : (g : Token → ℕ) (lent left : List ℕ) → left ≡ sets lent 0 (map g (readAt s end f start)) → n ≤ length left
+      → take n left ≡ map g (readAt s end f start)
+  noted g lent left k room =
+      let y = all-read in
+      let m : length (map g (readAt s end f start)) ≡ n = length-map (readAt s end f start) g ∙ ap length (y .1 .1) ∙ y .1 .2 in
+      let b : length (map g (readAt s end f start)) ≤ length lent = omega (arith, m, ap length k, length-sets lent 0 (map g (readAt s end f start))) in
+      ap (take n) k ∙ ap (λ (i : ℕ). take i (sets lent 0 (map g (readAt s end f start)))) (sym m) ∙ front lent (map g (readAt s end f start)) b
+
+-- the words of a walk, laid: answer and sheet
+laid-list : (l : List Token) (words lent : List ℕ) → words ≡ wordsOf l → (laidAnswer words lent ≡ sheetAnswer (ok l) lent) × (laidWords words lent ≡ sheetWords (ok l) lent)
+laid-list l words lent e =
+    let m : length words ≡ 1 * length l = ap length e ∙ length-map l _ ∙ (omega arith) in
+    let q : length words ≡ length l = omega arith in (
+      ap (λ (k : ℕ). pick (leb k (length lent)) (C.Count (length words)) (C.Refused (record { number = noRoom; place = length words }))) m
+          ∙ ap (λ (k : ℕ). pick (leb (1 * length l) (length lent)) (C.Count k) (C.Refused (record { number = noRoom; place = length words }))) q
+          ∙ ap (λ (k : ℕ). pick (leb (1 * length l) (length lent)) (C.Count (length l)) (C.Refused (record { number = noRoom; place = k }))) m,
+      ap (λ (k : ℕ). pick (leb k (length lent)) (laid words lent) lent) m ∙ ap (λ (w : List ℕ). pick (leb (1 * length l) (length lent)) (laid w lent) lent) e,
+    )
+
+pub walk-laid : (w : Walked) (l : List Token) (words lent left : List ℕ) (r : Counted) → w ≡ ok l → words ≡ wordsOf l → r ≡ laidAnswer words lent → left ≡ laidWords words lent
+    → (r ≡ sheetAnswer w lent) × (left ≡ sheetWords w lent)
+walk-laid w l words lent left r e h a b =
+    let y = laid-list l words lent h in
+    (a ∙ y .0 ∙ ap (λ (v : Walked). sheetAnswer v lent) (sym e), b ∙ y .1 ∙ ap (λ (v : Walked). sheetWords v lent) (sym e))
+
+-- a stream that is not too long, from a start within it; one that is too long; a start beyond its end
+pub walk-within : (s : List ℕ) (start len : ℕ) (f : Flags) → length s ≤ 65536 → start ≤ length s → walkOf s start len f ≡ walkAt s (start + len) f start
+unfolding walkOf
+walk-within s start len f h k = rw (le-leb (length s) 65536 h, le-leb start (length s) k)
+
+pub too-long : (s : List ℕ) (start len : ℕ) (f : Flags) → 65536 < length s → walkOf s start len f ≡ bad wrongLength 0
+unfolding walkOf
+too-long s start len f h = rw (lt-leb (length s) 65536 h)
+
+pub beyond : (s : List ℕ) (start len : ℕ) (f : Flags) → length s ≤ 65536 → length s < start → walkOf s start len f ≡ bad pastEnd start
+unfolding walkOf
+beyond s start len f h k = rw (le-leb (length s) 65536 h, lt-leb start (length s) k)
+
+-- words that stand at the front of a buffer
+pub front-laid : (s : List ℕ) (end : ℕ) (f : Flags) (start n : ℕ) (words lent left : List ℕ) (r : Counted) → countedOf (walkAt s end f start) ≡ C.Count n
+    → words ≡ wordsOf (readAt s end f start) → r ≡ laidAnswer words lent → left ≡ laidWords words lent
+    → (r ≡ sheetAnswer (walkAt s end f start) lent) × (left ≡ sheetWords (walkAt s end f start) lent)
+front-laid s end f start n words lent left r c h a b =
+    let y = all-read s end f start n c in
+    walk-laid (walkAt s end f start) (y .0) words lent left r (y .1 .0) (h ∙ ap wordsOf (y .1 .1)) a b
+
+-- words that are set into the sheet itself, and none where there is no room
+module _ (s : List ℕ) (end : ℕ) (f : Flags) (start n : ℕ) (lent : List ℕ) (c : countedOf (walkAt s end f start) ≡ C.Count n) where
+  count-of : length (wordsOf (readAt s end f start)) ≡ n
+  count-of = let y = all-read s end f start n c in length-map (readAt s end f start) _ ∙ ap length (y .1 .1) ∙ y .1 .2
+
+  pub set-laid : (left : List ℕ) → n ≤ length lent → left ≡ sets lent 0 (wordsOf (readAt s end f start))
+      → (C.Count n ≡ sheetAnswer (walkAt s end f start) lent) × (left ≡ sheetWords (walkAt s end f start) lent)
+  set-laid left h k =
+      let w = wordsOf (readAt s end f start) in
+      let m = count-of in
+      let b : 0 + length w ≤ length lent = omega (arith, m) in
+      let t = le-leb (length w) (length lent) (omega (arith, m)) in
+      let z : length w ≡ 0 + length w = omega arith in
+      front-laid s end f start n w lent left (C.Count n) c refl (ap C.Count (sym m) ∙ rw t)
+      (k ∙ sets-eq w lent 0 b ∙ ap (λ (i : ℕ). w ++ drop i lent) (sym z) ∙ rw t)
+
+  pub no-room : length lent < n → (C.Refused (record { number = noRoom; place = n }) ≡ sheetAnswer (walkAt s end f start) lent) × (lent ≡ sheetWords (walkAt s end f start) lent)
+  no-room h =
+      let w = wordsOf (readAt s end f start) in
+      let m = count-of in
+      let t = lt-leb (length w) (length lent) (omega (arith, m)) in
+      front-laid s end f start n w lent lent (C.Refused (record { number = noRoom; place = n })) c refl
+      (ap (λ (i : ℕ). C.Refused (record { number = noRoom; place = i })) (sym m) ∙ rw t) (rw t)
+
+-- what is said of a walk is said of the same walk under another name
+pub walk-as : (v w : Walked) (lent left : List ℕ) (r : Counted) → v ≡ w → (r ≡ sheetAnswer w lent) × (left ≡ sheetWords w lent) → (r ≡ sheetAnswer v lent) × (left ≡ sheetWords v lent)
+walk-as v w lent left r e h = subst (λ (x : Walked). (r ≡ sheetAnswer x lent) × (left ≡ sheetWords x lent)) (sym e) h

@@ -1,2 +1,3 @@
--- Laws that the proofs here cite.
+-- Laws that the proofs here and in the crates above cite.
+pub mod Noting
 pub mod Laying

@@ -1,16 +1,16 @@
 -- The sheet. Document 01, "Sheet and C calls".
 use mathlib.Core.Path.{_≡_}
 use mathlib.Core.Bool.{Bool, true, false}
-use mathlib.Core.List.{List, map}
-use Prim.Native.Nat.{ℕ, _+_, _*_, _%_, _^_, _≤_}
+use mathlib.Core.List.{List, [], _∷_, map}
+use Prim.Native.Nat.{ℕ, zero, suc, _+_, _-_, _*_, _%_, _^_, _≤_}
 use lib.Dec.{leb}
-use lib.ListN.{length}
-use Rattle.cursor.specs.Answer.{pick}
+use lib.ListN.{length, take}
+use Rattle.cursor.specs.Answer.{Answer, given, refused, pick}
 use Rattle.cursor.specs.Refusals.{noRoom}
 use Rattle.cursor.specs.Lent.{laid}
 use Rattle.cursor.specs.declared.Counted.{Counted}
 use Rattle.cursor.specs.declared.Counted.the-variants as C
-use Rattle.tokens.specs.Walk.{Walked, ok, bad, walkAt}
+use Rattle.tokens.specs.Walk.{Met, handed, header, over, Walked, ok, bad, stepAt}
 use Rattle.tokens.specs.declared.Flags.{Flags}
 use Rattle.tokens.specs.declared.Token.{Token}
 
@@ -41,9 +41,32 @@ abbrev pub sheetWords : Walked → List ℕ → List ℕ
 sheetWords (ok l) lent = pick (leb (wordsPerToken * length l) (length lent)) (laid (wordsOf l) lent) lent
 sheetWords (bad k p) lent = lent
 
--- what the private functions cite: a walk's words have room, and are laid
-abbrev pub RoomFor : List ℕ → ℕ → Flags → ℕ → List ℕ → Type 0
-RoomFor s end f start lent = (l : List Token) × ((walkAt s end f start ≡ ok l) × (length l ≤ length lent))
+-- words into a lent sheet: 16 where there is no room for all of them
+abbrev pub laidAnswer : List ℕ → List ℕ → Counted
+laidAnswer w lent = pick (leb (length w) (length lent)) (C.Count (length w)) (C.Refused (record { number = noRoom; place = length w }))
 
-abbrev pub WalkLaid : List ℕ → ℕ → Flags → ℕ → List ℕ → List ℕ → Type 0
-WalkLaid s end f start lent left = (l : List Token) → walkAt s end f start ≡ ok l → left ≡ laid (wordsOf l) lent
+abbrev pub laidWords : List ℕ → List ℕ → List ℕ
+laidWords w lent = pick (leb (length w) (length lent)) (laid w lent) lent
+
+-- the kinds of tokens
+abbrev pub kindsOf : List Token → List ℕ
+kindsOf l = map (λ (t : Token). t .kind) l
+
+-- the tokens that a walk hands on before it ends or is refused
+abbrev pub handedOn : Answer Met → (ℕ → List Token) → List Token
+handedOn (given (handed t) next) go = t ∷ go next
+handedOn (given header next) go = []
+handedOn (given over next) go = []
+handedOn (refused k p) go = []
+
+unfoldable pub readFrom : ℕ → List ℕ → ℕ → Flags → ℕ → List Token
+readFrom zero s end f at = []
+readFrom (suc steps) s end f at = handedOn (stepAt s end f at) (readFrom steps s end f)
+
+-- each token has a byte, so that there are fewer steps than bytes left and one
+abbrev pub readAt : List ℕ → ℕ → Flags → ℕ → List Token
+readAt s end f at = readFrom (suc (length s - at)) s end f at
+
+-- what a private function cites: where there is room for the words of n tokens they stand at the front
+abbrev pub Noted : List ℕ → ℕ → Flags → ℕ → ℕ → List ℕ → Type 0
+Noted s end f start n words = n ≤ length words → take n words ≡ wordsOf (readAt s end f start)

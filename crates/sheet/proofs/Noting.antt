@@ -1,0 +1,142 @@
+-- The tokens that a walk hands on, one after the other, and their words in a buffer. Assumes nothing.
+use mathlib.Core.Path.{_≡_, refl, sym, ap, subst, _∙_}
+use mathlib.Core.List.{List, [], _∷_, map}
+use Prim.Native.Nat.{ℕ, zero, suc, _+_, _-_, _≤_, _<_}
+use native.Mathlib.Omega.{arith}
+use native.Mathlib.Decide.{decLt}
+use borrow.Author.Tests.{le-ltb}
+use lib.ListN.{length, set, length-set}
+use lib.Seq.{sets}
+use Rattle.cursor.specs.Answer.{Answer, given, refused}
+use Rattle.tokens.specs.Walk.{Met, handed, header, over, Walked, ok, bad, before, after, turnAt, stepAt, walkFrom, walkAt}
+use Rattle.tokens.specs.declared.Flags.{Flags}
+use Rattle.tokens.specs.declared.Token.{Token}
+use Rattle.tokens.proofs.Reach.{Grows}
+use Rattle.tokens.proofs.Steps.{step-grows, step-is}
+use Rattle.sheet.specs.Sheet.{handedOn, readFrom, readAt}
+
+handed-same : (at high : ℕ) (x : Answer Met) (go to : ℕ → List Token) → Grows at high x → ((n : ℕ) → at < n → n ≤ high → go n ≡ to n)
+    → handedOn x go ≡ handedOn x to
+handed-same at high (given (handed t) n) go to h g = ap (λ (l : List Token). t ∷ l) (g n (omega (arith, h .0, h .1)) (h .2))
+handed-same at high (given header n) go to h g = refl
+handed-same at high (given over n) go to h g = refl
+handed-same at high (refused k p) go to h g = refl
+
+handed-short : (at high : ℕ) (x : Answer Met) (go : ℕ → List Token) → Grows at high x → ((n : ℕ) → length (go n) ≤ high - n)
+    → length (handedOn x go) ≤ high - at
+handed-short at high (given (handed t) n) go h g = omega (arith, h .0, h .1, h .2, g n)
+handed-short at high (given header n) go h g = omega arith
+handed-short at high (given over n) go h g = omega arith
+handed-short at high (refused k p) go h g = omega arith
+
+handed-within : (at high end : ℕ) (x : Answer Met) (go : ℕ → List Token) → at < end → Grows at high x → ((n : ℕ) → length (go n) ≤ end - n)
+    → length (handedOn x go) ≤ end - at
+handed-within at high end (given (handed t) n) go l h g = omega (arith, h .0, h .1, g n)
+handed-within at high end (given header n) go l h g = omega arith
+handed-within at high end (given over n) go l h g = omega arith
+handed-within at high end (refused k p) go l h g = omega arith
+
+before-ok : (t : Token) (w : Walked) (l : List Token) → before t w ≡ ok l → (r : List Token) × ((l ≡ t ∷ r) × (w ≡ ok r))
+before-ok t (ok r) l e = (r, (cc, refl))
+before-ok t (bad k p) l e = let z : _≡_ {A = ℕ} 0 1 = cc in absurd (omega arith)
+
+ok-same : (x : Answer Met) (walk : ℕ → Walked) (go : ℕ → List Token) → ((n : ℕ) (l : List Token) → walk n ≡ ok l → go n ≡ l) → (l : List Token)
+    → after x walk ≡ ok l → handedOn x go ≡ l
+ok-same (given (handed t) n) walk go g l e =
+    let y = before-ok t (walk n) l e in
+    ap (λ (r : List Token). t ∷ r) (g n (y .0) (y .1 .1)) ∙ sym (y .1 .0)
+ok-same (given header n) walk go g l e = cc
+ok-same (given over n) walk go g l e = cc
+ok-same (refused k p) walk go g l e = let z : _≡_ {A = ℕ} 0 1 = cc in absurd (omega arith)
+
+module _ (s : List ℕ) (end : ℕ) (f : Flags) where
+  enough : (t u at : ℕ) → 0 < t → 0 < u → length s < at + t → length s < at + u → readFrom t s end f at ≡ readFrom u s end f at
+  unfolding readFrom
+  enough zero u at a b c d = absurd (omega arith)
+  enough (suc t) zero at a b c d = absurd (omega arith)
+  enough (suc t) (suc u) at a b c d =
+      handed-same at (length s) (stepAt s end f at) (readFrom t s end f) (readFrom u s end f) (step-grows s end f at)
+      (λ n l h. enough t u n (omega arith) (omega arith) (omega arith) (omega arith))
+
+  read-is : (at : ℕ) (x : Answer Met) → stepAt s end f at ≡ x → readAt s end f at ≡ handedOn x (readFrom (length s - at) s end f)
+  unfolding readFrom
+  read-is at x e = ap (λ (y : Answer Met). handedOn y (readFrom (length s - at) s end f)) e
+
+  read-token : (at n : ℕ) (t : Token) → stepAt s end f at ≡ given (handed t) n → readAt s end f at ≡ t ∷ readAt s end f n
+  read-token at n t e =
+      let h = subst (Grows at (length s)) e (step-grows s end f at) in
+      read-is at (given (handed t) n) e
+      ∙ ap (λ (l : List Token). t ∷ l)
+      (enough (length s - at) (suc (length s - n)) n (omega (arith, h .0, h .1, h .2)) (omega arith) (omega (arith, h .0, h .1, h .2)) (omega arith))
+
+  read-ok : (steps at : ℕ) (l : List Token) → walkFrom steps s end f at ≡ ok l → readFrom steps s end f at ≡ l
+  unfolding readFrom walkFrom
+  read-ok zero at l e = cc
+  read-ok (suc steps) at l e = ok-same (stepAt s end f at) (walkFrom steps s end f) (readFrom steps s end f) (read-ok steps) l e
+
+  -- a walk that is read hands on its tokens
+  pub read-all : (at : ℕ) (l : List Token) → walkAt s end f at ≡ ok l → readAt s end f at ≡ l
+  read-all at l e = read-ok (suc (length s - at)) at l e
+
+  -- each token has a byte
+  short-from : (steps at : ℕ) → length (readFrom steps s end f at) ≤ length s - at
+  unfolding readFrom
+  short-from zero at = omega arith
+  short-from (suc steps) at = handed-short at (length s) (stepAt s end f at) (readFrom steps s end f) (step-grows s end f at) (short-from steps)
+
+  pub read-short : (at : ℕ) → length (readAt s end f at) ≤ length s - at
+  read-short at = short-from (suc (length s - at)) at
+
+  -- a token is handed on only from before the end
+  turn-over : (at : ℕ) → end ≤ at → turnAt s end f at ≡ given over at
+  unfolding turnAt
+  turn-over at h = rw (le-ltb at end h)
+
+  step-over : (at : ℕ) → end ≤ at → stepAt s end f at ≡ given over at
+  step-over at h = step-is s end f at (given over at) (turn-over at h)
+
+  within-from : (steps at : ℕ) → length (readFrom steps s end f at) ≤ end - at
+  unfolding readFrom
+  within-from zero at = omega arith
+  within-from (suc steps) at =
+      elim (decLt at end) [
+        | yes l ↦ handed-within at (length s) end (stepAt s end f at) (readFrom steps s end f) l (step-grows s end f at) (within-from steps)
+        | no l ↦
+            let e : readFrom (suc steps) s end f at ≡ [] = ap (λ (y : Answer Met). handedOn y (readFrom steps s end f)) (step-over at (omega arith)) in
+            omega (arith, ap length e)
+      ]
+
+  pub read-within : (at : ℕ) → length (readAt s end f at) ≤ end - at
+  read-within at = within-from (suc (length s - at)) at
+
+  -- what a buffer holds when the walk stands at `at` after n tokens, for a number of each token
+  pub record Noting (g : Token → ℕ) (start at n : ℕ) (lent left : List ℕ) : Type 0 where
+    pub same : sets left n (map g (readAt s end f at)) ≡ sets lent 0 (map g (readAt s end f start))
+    pub kept : length left ≡ length lent
+
+  module _ (g : Token → ℕ) (start : ℕ) where
+    pub noting-start : (lent : List ℕ) → Noting g start start 0 lent lent
+    noting-start lent = record { same = refl; kept = refl }
+
+    module _ (at n : ℕ) (lent left : List ℕ) (y : Noting g start at n lent left) where
+      pub noting-next : (t : Token) (m : ℕ) → stepAt s end f at ≡ given (handed t) m → (w : ℕ) → w ≡ g t → (next : List ℕ) → next ≡ set left n w
+          → Noting g start m (n + 1) lent next
+      noting-next t m e w v next h =
+          let a : next ≡ set left n (g t) = h ∙ ap (set left n) v in
+          let b : n + 1 ≡ suc n = omega arith in
+          record {
+            same =
+                ap (λ (x : List ℕ). sets x (n + 1) (map g (readAt s end f m))) a
+                ∙ ap (λ (k : ℕ). sets (set left n (g t)) k (map g (readAt s end f m))) b
+                ∙ ap (λ (l : List Token). sets left n (map g l)) (sym (read-token at m t e)) ∙ y .same;
+            kept = ap length a ∙ length-set left n (g t) ∙ y .kept;
+          }
+
+      noting-over : (x : Answer Met) → stepAt s end f at ≡ x → handedOn x (readFrom (length s - at) s end f) ≡ [] → left ≡ sets lent 0 (map g (readAt s end f start))
+      noting-over x e h = ap (λ (l : List Token). sets left n (map g l)) (sym (read-is at x e ∙ h)) ∙ y .same
+
+      pub noting-last : (m : ℕ) → stepAt s end f at ≡ given over m → left ≡ sets lent 0 (map g (readAt s end f start))
+      noting-last m e = noting-over (given over m) e refl
+
+      pub noting-refused : (k p : ℕ) → stepAt s end f at ≡ refused k p → left ≡ sets lent 0 (map g (readAt s end f start))
+      noting-refused k p e = noting-over (refused k p) e refl
