@@ -3,8 +3,14 @@
 //! The printed files are compiled from where they stand and are not copied: the file made here
 //! points at each of them by its full path. `EVTX_SRC` names the folder that holds them (the one
 //! with INDEX.md); a relative one counts from the repository's root.
+//!
+//! The package compare-vector is the same sources with the true memchr in place of its stand-in,
+//! for the benchmark. `MEMCHR_SRC` names the folder of memchr's source; without it that package has
+//! the stand-in too. The source is compiled here and not by cargo, which would have to find it, and
+//! the crates that it names, before it builds anything at all.
 
 use std::path::{Path, PathBuf};
+use std::process::Command;
 use std::{env, fs};
 
 /// The folder beside the repository's checkout.
@@ -12,7 +18,12 @@ const DEFAULT_SOURCES: &str = "../shared/docs/src";
 
 fn main() {
     println!("cargo::rerun-if-env-changed=EVTX_SRC");
-    let package = PathBuf::from(env::var_os("CARGO_MANIFEST_DIR").expect("set by cargo"));
+    let manifest = PathBuf::from(env::var_os("CARGO_MANIFEST_DIR").expect("set by cargo"));
+    let vector = env::var("CARGO_PKG_NAME").is_ok_and(|name| name == "compare-vector");
+    let package = match manifest.parent() {
+        Some(above) if vector => above,
+        _ => &manifest,
+    };
     let root = package.parent().expect("the repository's root");
     let named = env::var_os("EVTX_SRC").map(PathBuf::from);
     let sources = root.join(named.unwrap_or_else(|| DEFAULT_SOURCES.into()));
@@ -26,6 +37,39 @@ fn main() {
     let out = PathBuf::from(env::var_os("OUT_DIR").expect("set by cargo"));
     let text = modules(&sources.join("src"), &package.join("src"));
     fs::write(out.join("printed.rs"), text).expect("OUT_DIR takes a file");
+
+    println!("cargo::rustc-check-cfg=cfg(true_memchr)");
+    let memchr = if vector { memchr(root, &out) } else { None };
+    println!("cargo::rustc-env=MEMCHR={}", memchr.unwrap_or_default());
+}
+
+/// Compiles memchr where its source is at hand, and hands back the name of the source's folder. The
+/// crate has a name of its own, since std has a memchr too. What its own build script sets is set
+/// here: the vector code, which asks the machine at run time what it can do.
+fn memchr(root: &Path, out: &Path) -> Option<String> {
+    println!("cargo::rerun-if-env-changed=MEMCHR_SRC");
+    let folder = root.join(env::var_os("MEMCHR_SRC")?);
+    let file = folder.join("src/lib.rs");
+    println!("cargo::rerun-if-changed={}", file.display());
+
+    let mut rustc = Command::new(env::var_os("RUSTC").expect("set by cargo"));
+    rustc.args(["--crate-name=true_memchr", "--crate-type=rlib"]);
+    rustc.args(["--edition=2018", "--cap-lints=allow"]);
+    rustc.args(["-Copt-level=3", "-Ccodegen-units=1"]);
+    rustc.arg("--cfg=feature=\"std\"");
+    if env::var("CARGO_CFG_TARGET_ARCH").is_ok_and(|arch| arch == "x86_64") {
+        for part in ["simd", "sse2", "sse42", "avx"] {
+            rustc.arg(format!("--cfg=memchr_runtime_{part}"));
+        }
+    }
+    let target = env::var("TARGET").expect("set by cargo");
+    rustc.args(["--target", &target, "--out-dir"]).arg(out);
+    let status = rustc.arg(&file).status().expect("rustc runs");
+    assert!(status.success(), "no memchr from {}", file.display());
+
+    println!("cargo::rustc-link-search={}", out.display());
+    println!("cargo::rustc-cfg=true_memchr");
+    Some(folder.file_name()?.display().to_string())
 }
 
 /// The module tree of the printed crate. Its places are those of the crate, since the files name

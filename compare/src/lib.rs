@@ -15,8 +15,11 @@ extern crate self as crc32fast;
 extern crate self as encoding_rs;
 extern crate self as jiff;
 extern crate self as log;
+#[cfg(not(true_memchr))]
 extern crate self as memchr;
 extern crate self as serde_json;
+#[cfg(true_memchr)]
+extern crate true_memchr as memchr;
 
 #[allow(
     unused_imports,
@@ -46,3 +49,4 @@ include!(concat!(env!("OUT_DIR"), "/printed.rs"));
 
 pub mod cases;
 pub mod oracle;
+pub mod timed;

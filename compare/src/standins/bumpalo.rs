@@ -41,7 +41,18 @@ impl Bump {
         bump
     }
 
+    /// Frees all that was put in. The newest block is kept to be used again, as in bumpalo.
     pub fn reset(&mut self) {
+        let kept = self.blocks.get_mut().pop();
+        self.clear();
+        if let Some((block, layout)) = kept {
+            self.free.set(block);
+            self.left.set(layout.size());
+            self.blocks.get_mut().push((block, layout));
+        }
+    }
+
+    fn clear(&mut self) {
         self.left.set(0);
         for (block, layout) in self.blocks.get_mut().drain(..) {
             // SAFETY: the block came from `alloc` with this layout, and `&mut self` says that
@@ -118,7 +129,7 @@ impl Bump {
 
 impl Drop for Bump {
     fn drop(&mut self) {
-        self.reset();
+        self.clear();
     }
 }
 

@@ -6,10 +6,11 @@ const MIN_SECOND: i64 = -377_705_023_201;
 const MAX_SECOND: i64 = 253_402_207_200;
 const NANOS_PER_SECOND: i128 = 1_000_000_000;
 
+/// Seconds since 1970 and the nanoseconds beside them, as jiff has it.
 #[derive(Debug, Clone, Copy, PartialEq, Eq, PartialOrd, Ord, Hash)]
 pub struct Timestamp {
-    /// Nanoseconds since 1970.
-    nanos: i128,
+    second: i64,
+    nanosecond: i32,
 }
 
 #[derive(Debug, Clone, Copy, PartialEq, Eq)]
@@ -23,12 +24,11 @@ impl Timestamp {
         if !in_range {
             return Err(RangeError);
         }
-        let nanos = i128::from(second) * NANOS_PER_SECOND + i128::from(nanosecond);
-        Ok(Timestamp { nanos })
+        Ok(Timestamp { second, nanosecond })
     }
 
     pub fn as_nanosecond(self) -> i128 {
-        self.nanos
+        i128::from(self.second) * NANOS_PER_SECOND + i128::from(self.nanosecond)
     }
 }
 

@@ -1,0 +1,176 @@
+//! The cases: what is called on what, and what it has to answer.
+
+use crate::inputs::{self, Stream};
+use crate::port;
+use compare::oracle::owners::{self, MOST_LEVELS};
+use compare::timed::{self, Call, TOLD};
+
+/// Words that are enough for every answer.
+pub const ROOM: usize = 65536;
+
+/// Who is called.
+#[derive(Clone, Copy, PartialEq, Eq)]
+pub enum Side {
+    /// The Rust, with the true memchr where it is at hand.
+    Rust,
+    /// The Rust, with the stand-in.
+    StandIn,
+    Port,
+}
+
+impl Side {
+    /// By their numbers.
+    pub const ALL: [Side; 3] = [Side::Rust, Side::StandIn, Side::Port];
+
+    pub fn name(self) -> &'static str {
+        match self {
+            Side::Rust => "rust",
+            Side::StandIn => "stand-in",
+            Side::Port => "port",
+        }
+    }
+}
+
+/// What is called.
+#[derive(Clone, Copy, PartialEq, Eq)]
+pub enum Kind {
+    List { recovery: bool },
+    Sheet,
+    Owners,
+}
+
+/// What it is called on.
+pub enum Input {
+    Chunk(Vec<u8>),
+    Stream(Stream),
+}
+
+pub struct Case {
+    pub name: &'static str,
+    pub kind: Kind,
+    pub goal: f64,
+    pub input: Input,
+}
+
+impl Case {
+    /// The sides of the case. Only the record walk searches, so the rest has no stand-in's figure.
+    pub fn sides(&self) -> impl Iterator<Item = Side> {
+        let searches = matches!(self.kind, Kind::List { .. });
+        let all = Side::ALL.into_iter();
+        all.filter(move |side| searches || *side != Side::StandIn)
+    }
+
+    /// The call of a side. The Rust has no owner table: it makes the sheet.
+    pub fn call(&self, side: Side) -> Call<'_> {
+        match (self.kind, &self.input) {
+            (Kind::List { recovery }, Input::Chunk(chunk)) => match side {
+                Side::Rust => compare_vector::timed::list(chunk, recovery),
+                Side::StandIn => timed::list(chunk, recovery),
+                Side::Port => port::list(chunk, recovery),
+            },
+            (kind, Input::Stream(Stream { bytes, asked })) => match side {
+                Side::Port if kind == Kind::Owners => port::owners(bytes, *asked),
+                Side::Port => port::sheet(bytes, *asked),
+                _ => timed::sheet(bytes, *asked),
+            },
+            _ => unreachable!("chunks are listed, and streams are not"),
+        }
+    }
+
+    /// What a side answers, and its words.
+    fn answer(&self, side: Side) -> (u64, Vec<u64>) {
+        let mut words = vec![0; ROOM];
+        (self.call(side)(&mut words), words)
+    }
+
+    /// The answer of both sides, and a checksum over the port's words; or what they disagree in.
+    pub fn check(&self) -> Result<(u64, u64), String> {
+        let mut rust = self.answer(Side::Rust);
+        if rust != self.answer(Side::StandIn) {
+            return Err("the Rust answers otherwise with the stand-in".to_owned());
+        }
+        if self.kind == Kind::Owners {
+            rust = table(rust.0, &rust.1);
+        }
+        let port = self.answer(Side::Port);
+        if port.0 != rust.0 {
+            return Err(format!(
+                "the port answers {:x}, the Rust {:x}",
+                port.0, rust.0
+            ));
+        }
+        let told = if self.kind == Kind::Sheet { TOLD } else { !0 };
+        let differs = |(port, rust): (&u64, &u64)| port & told != *rust;
+        if let Some(at) = port.1.iter().zip(&rust.1).position(differs) {
+            return Err(format!("the port's word {at} is not the Rust's"));
+        }
+        Ok((port.0, checksum(&port.1)))
+    }
+}
+
+/// The answer and the words of the owner table of the tokens in a sheet, by the grammar that the
+/// comparison holds the port to.
+fn table(count: u64, sheet: &[u64]) -> (u64, Vec<u64>) {
+    let kinds = sheet[..count as usize].iter().map(|word| word >> 60);
+    let kinds: Vec<u8> = kinds.map(|kind| kind as u8).collect();
+    let mut words = vec![0; ROOM];
+    match owners::owners(&kinds, MOST_LEVELS) {
+        Ok(table) => {
+            for (word, pair) in words.iter_mut().zip(table.chunks(2)) {
+                let low = u64::from(pair[0]);
+                *word = low | u64::from(*pair.get(1).unwrap_or(&0)) << 32;
+            }
+            (count, words)
+        }
+        Err(refusal) => (timed::refused(refusal), words),
+    }
+}
+
+/// FNV-1a over words.
+fn checksum(words: &[u64]) -> u64 {
+    let mix = |sum: u64, word: &u64| (sum ^ word).wrapping_mul(0x100_0000_01b3);
+    words.iter().fold(0xcbf2_9ce4_8422_2325, mix)
+}
+
+pub fn all() -> Vec<Case> {
+    let chunk = |name, recovery, chunk| Case {
+        name,
+        kind: Kind::List { recovery },
+        goal: 1.0,
+        input: Input::Chunk(chunk),
+    };
+    let stream = |name, kind, stream| Case {
+        name,
+        kind,
+        goal: if kind == Kind::Owners { 1.5 } else { 1.0 },
+        input: Input::Stream(stream),
+    };
+    let repeated = inputs::repeated;
+    let elements = inputs::elements;
+    use Kind::{Owners, Sheet};
+    vec![
+        chunk("list: 127 of 512 bytes", false, inputs::records(512, true)),
+        chunk("list: 127, recovery", true, inputs::records(512, true)),
+        chunk("list: 127 carved", true, inputs::records(512, false)),
+        chunk("list: 2,322 of 28 bytes", false, inputs::records(28, true)),
+        chunk("list: 2,322, recovery", true, inputs::records(28, true)),
+        chunk("list: 2,322 carved", true, inputs::records(28, false)),
+        chunk("search: zeros", true, repeated(&[0])),
+        chunk("search: random bytes", true, inputs::random()),
+        chunk("search: all 2A", true, repeated(&[0x2a])),
+        chunk("search: 2A2A0001", true, repeated(&[0x2a, 0x2a, 0, 1])),
+        chunk("search: 2A2A0000", true, repeated(&[0x2a, 0x2a, 0, 0])),
+        stream("sheet: elements", Sheet, elements(false, false)),
+        stream("sheet: dependencies", Sheet, elements(true, false)),
+        stream("sheet: inline names", Sheet, elements(false, true)),
+        stream("sheet: instances", Sheet, inputs::instances()),
+        stream("sheet: single", Sheet, inputs::single()),
+        stream("sheet: single in chunk", Sheet, inputs::single_in_chunk()),
+        stream("owners: elements", Owners, elements(false, false)),
+        stream("owners: dependencies", Owners, elements(true, false)),
+        stream("owners: inline names", Owners, elements(false, true)),
+        stream("owners: instances", Owners, inputs::instances()),
+        stream("owners: single", Owners, inputs::single()),
+        stream("owners: single in chunk", Owners, inputs::single_in_chunk()),
+    ]
+}

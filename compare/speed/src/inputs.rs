@@ -1,0 +1,293 @@
+//! What the calls are timed on: chunks and streams.
+
+use compare::cases::random::Random;
+use compare::oracle::tokens::Asked;
+
+const CHUNK: usize = 65536;
+/// Where records start.
+const FIRST: usize = 512;
+/// About as long as the long streams are.
+const LONG: usize = 60_000;
+const FILETIME: u64 = 133_000_000_000_000_000;
+const MAGIC: [u8; 4] = [0x2a, 0x2a, 0, 0];
+
+/// A chunk with a header and nothing else.
+fn bare_chunk(last_id: u64, last: usize, free: usize) -> Vec<u8> {
+    let mut chunk = vec![0; CHUNK];
+    chunk[..8].copy_from_slice(b"ElfChnk\0");
+    chunk[24..32].copy_from_slice(&1_u64.to_le_bytes());
+    chunk[32..40].copy_from_slice(&last_id.to_le_bytes());
+    chunk[40..44].copy_from_slice(&128_u32.to_le_bytes());
+    chunk[44..48].copy_from_slice(&(last as u32).to_le_bytes());
+    chunk[48..52].copy_from_slice(&(free as u32).to_le_bytes());
+    chunk
+}
+
+/// As many records of a size as a chunk holds. Live ones, or old ones behind the free space's start.
+pub fn records(size: usize, live: bool) -> Vec<u8> {
+    let count = (CHUNK - FIRST) / size;
+    let end = FIRST + count * size;
+    let free = if live { end } else { FIRST };
+    let mut chunk = bare_chunk(count as u64, end - size, free);
+    for (id, record) in (1_u64..).zip(chunk[FIRST..end].chunks_exact_mut(size)) {
+        let stored = (size as u32).to_le_bytes();
+        record.fill(b'x');
+        record[..4].copy_from_slice(&MAGIC);
+        record[4..8].copy_from_slice(&stored);
+        record[8..16].copy_from_slice(&id.to_le_bytes());
+        record[16..24].copy_from_slice(&(FILETIME + id * 12_345).to_le_bytes());
+        record[size - 4..].copy_from_slice(&stored);
+    }
+    chunk
+}
+
+/// A chunk that is free space, with these bytes over and over.
+pub fn repeated(bytes: &[u8]) -> Vec<u8> {
+    let mut chunk = bare_chunk(1, FIRST, FIRST);
+    for (place, byte) in chunk[FIRST..].iter_mut().zip(bytes.iter().cycle()) {
+        *place = *byte;
+    }
+    chunk
+}
+
+/// A chunk that is free space, with random bytes in which the magic nowhere stands.
+pub fn random() -> Vec<u8> {
+    let mut chunk = bare_chunk(1, FIRST, FIRST);
+    let mut random = Random::new(1);
+    chunk[FIRST..].fill_with(|| random.byte());
+    while let Some(at) = chunk.windows(4).position(|bytes| bytes == MAGIC) {
+        chunk[at] = 0;
+    }
+    chunk
+}
+
+/// A stream, and how it is walked.
+pub struct Stream {
+    pub bytes: Vec<u8>,
+    pub asked: Asked,
+}
+
+impl Stream {
+    fn whole(bytes: Vec<u8>, dependencies: bool, inline_names: bool) -> Self {
+        let asked = Asked {
+            start: 0,
+            length: bytes.len(),
+            dependencies,
+            inline_names,
+        };
+        Stream { bytes, asked }
+    }
+}
+
+/// One element full of elements of four shapes: a text in an attribute and a substitution as
+/// content, a text as content, empty, and two attributes with substitutions.
+pub fn elements(dependencies: bool, inline_names: bool) -> Stream {
+    let mut maker = Maker {
+        bytes: Vec::new(),
+        dependencies,
+        inline_names,
+        names: NAMES.map(|_| None),
+    };
+    maker.open(0, false);
+    maker.put(&[0x02]);
+    for turn in 0.. {
+        if maker.bytes.len() > LONG {
+            break;
+        }
+        let name = 1 + turn % 6;
+        match turn % 4 {
+            0 => {
+                maker.open(name, true);
+                maker.attribute(7);
+                maker.text("SubjectUserSid");
+                maker.put(&[0x02]);
+                maker.substitution(turn);
+                maker.put(&[0x04]);
+            }
+            1 => {
+                maker.open(name, false);
+                maker.put(&[0x02]);
+                maker.text("0x8020000000000000");
+                maker.put(&[0x04]);
+            }
+            2 => {
+                maker.open(name, false);
+                maker.put(&[0x03]);
+            }
+            _ => {
+                maker.open(name, true);
+                maker.attribute(8);
+                maker.substitution(turn);
+                maker.attribute(9);
+                maker.substitution(turn + 1);
+                maker.put(&[0x03]);
+            }
+        }
+    }
+    maker.put(&[0x04, 0x00]);
+    Stream::whole(maker.bytes, dependencies, inline_names)
+}
+
+/// Instances of 20 values one after the other, which is no body.
+pub fn instances() -> Stream {
+    let mut bytes = Vec::new();
+    while bytes.len() < LONG {
+        bytes.extend(instance());
+    }
+    bytes.push(0);
+    Stream::whole(bytes, false, false)
+}
+
+/// What a record mostly carries: a fragment header, an instance of 20 values, the end.
+pub fn single() -> Stream {
+    let bytes = [&[0x0f, 1, 1, 0][..], &instance(), &[0]].concat();
+    Stream::whole(bytes, false, false)
+}
+
+/// The same as the record of a chunk, in the chunk.
+pub fn single_in_chunk() -> Stream {
+    let Stream { bytes, mut asked } = single();
+    let mut chunk = records(512, true);
+    asked.start = FIRST + 63 * 512 + 24;
+    chunk[asked.start..asked.start + bytes.len()].copy_from_slice(&bytes);
+    Stream {
+        bytes: chunk,
+        asked,
+    }
+}
+
+const NAMES: [&str; 10] = [
+    "EventData",
+    "Data",
+    "Provider",
+    "EventID",
+    "TimeCreated",
+    "Execution",
+    "Computer",
+    "Name",
+    "ProcessID",
+    "ThreadID",
+];
+
+/// Type codes and sizes of an instance's values: those of a record's system part and a few more.
+const VALUES: [(u8, u16); 20] = [
+    (0x04, 1),  // UINT8
+    (0x04, 1),  // UINT8
+    (0x06, 2),  // UINT16
+    (0x06, 2),  // UINT16
+    (0x00, 0),  // NULL
+    (0x15, 8),  // HEX_INT64
+    (0x11, 8),  // FILETIME
+    (0x13, 28), // SID
+    (0x08, 4),  // UINT32
+    (0x08, 4),  // UINT32
+    (0x0a, 8),  // UINT64
+    (0x04, 1),  // UINT8
+    (0x00, 0),  // NULL
+    (0x01, 38), // STRING
+    (0x0f, 16), // GUID
+    (0x01, 24), // STRING
+    (0x14, 4),  // HEX_INT32
+    (0x0d, 4),  // BOOL
+    (0x0e, 16), // BINARY
+    (0x01, 30), // STRING
+];
+
+/// An instance whose definition stands elsewhere.
+fn instance() -> Vec<u8> {
+    let mut bytes = vec![0x0c, 1];
+    bytes.extend(7_u32.to_le_bytes());
+    bytes.extend(0_u32.to_le_bytes());
+    bytes.extend((VALUES.len() as u32).to_le_bytes());
+    for (code, size) in VALUES {
+        bytes.extend(size.to_le_bytes());
+        bytes.extend([code, 0]);
+    }
+    for (code, size) in VALUES {
+        let size = usize::from(size);
+        match code {
+            0x13 => bytes.extend([1, 5].into_iter().chain([0; 26])),
+            0x0d => bytes.extend(1_u32.to_le_bytes()),
+            0x01 => bytes.extend(b"S\0".repeat(size / 2)),
+            _ => bytes.extend(vec![0x11; size]),
+        }
+    }
+    bytes
+}
+
+struct Maker {
+    bytes: Vec<u8>,
+    dependencies: bool,
+    inline_names: bool,
+    /// Where each name stands, once it does: an offset name stands in place where it is met first.
+    names: [Option<u32>; NAMES.len()],
+}
+
+impl Maker {
+    fn put(&mut self, bytes: &[u8]) {
+        self.bytes.extend(bytes);
+    }
+
+    fn put16(&mut self, number: u16) {
+        self.put(&number.to_le_bytes());
+    }
+
+    fn put32(&mut self, number: u32) {
+        self.put(&number.to_le_bytes());
+    }
+
+    fn units(&mut self, text: &str) {
+        self.put16(text.len() as u16);
+        for unit in text.encode_utf16() {
+            self.put16(unit);
+        }
+    }
+
+    fn name(&mut self, number: usize) {
+        let name = NAMES[number];
+        let step = |hash: u32, unit: u16| hash.wrapping_mul(65599).wrapping_add(u32::from(unit));
+        let hash = name.encode_utf16().fold(0, step) as u16;
+        if self.inline_names {
+            self.put16(hash);
+        } else if let Some(offset) = self.names[number] {
+            return self.put32(offset);
+        } else {
+            let offset = self.bytes.len() as u32 + 4;
+            self.names[number] = Some(offset);
+            self.put32(offset);
+            self.put32(0);
+            self.put16(hash);
+        }
+        self.units(name);
+        self.put16(0);
+    }
+
+    fn open(&mut self, name: usize, attributes: bool) {
+        self.put(&[if attributes { 0x41 } else { 0x01 }]);
+        if self.dependencies {
+            // Every third element has a dependency.
+            self.put16(if name.is_multiple_of(3) { 5 } else { 0xffff });
+        }
+        self.put32(0);
+        self.name(name);
+        if attributes {
+            self.put32(0);
+        }
+    }
+
+    fn attribute(&mut self, name: usize) {
+        self.put(&[0x06]);
+        self.name(name);
+    }
+
+    fn text(&mut self, text: &str) {
+        self.put(&[0x05, 0x01]);
+        self.units(text);
+    }
+
+    fn substitution(&mut self, turn: usize) {
+        self.put(&[0x0e]);
+        self.put16(turn as u16 % 20);
+        self.put(&[0x01]);
+    }
+}

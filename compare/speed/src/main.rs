@@ -1,0 +1,146 @@
+//! The benchmark: port and printed Rust side by side in one process, on the same inputs.
+//!
+//! ```text
+//! speed                        the table
+//! speed --smoke                every case on each side: same answers, no times
+//! speed --run SIDE CASE CALLS  so many calls of a side (rust, stand-in, port), for a profiler
+//! ```
+
+mod cases;
+mod clock;
+mod inputs;
+mod port;
+
+use cases::{Case, ROOM, Side};
+use clock::Timed;
+use compare_vector::timed::{self, MEMCHR};
+use std::process::ExitCode;
+use std::time::Duration;
+
+/// How often all cases are gone through, and how long a case is timed each time.
+const PASSES: usize = 3;
+const LONG: Duration = Duration::from_millis(600);
+
+fn main() -> ExitCode {
+    let arguments: Vec<String> = std::env::args().skip(1).collect();
+    let arguments: Vec<&str> = arguments.iter().map(String::as_str).collect();
+    let cases = cases::all();
+    let done = match arguments[..] {
+        [] => check(&cases) && table(&cases),
+        ["--smoke"] => check(&cases),
+        ["--run", side, case, calls] => run(&cases, side, case, calls),
+        _ => {
+            eprintln!("usage: speed [--smoke | --run SIDE CASE CALLS]");
+            return ExitCode::from(2);
+        }
+    };
+    if done {
+        ExitCode::SUCCESS
+    } else {
+        ExitCode::FAILURE
+    }
+}
+
+/// Whether both sides answer the same in every case.
+fn check(cases: &[Case]) -> bool {
+    if MEMCHR.is_empty() {
+        println!("memchr is not at hand (MEMCHR_SRC): the Rust searches with the plain stand-in");
+    } else {
+        println!("the Rust searches with {MEMCHR}");
+    }
+    let mut equal = 0;
+    for case in cases {
+        match case.check() {
+            Ok((answer, sum)) => {
+                println!("{:<24} answer {answer:<16x} sum {sum:016x}", case.name);
+                equal += 1;
+            }
+            Err(why) => println!("{:<24} FAILED: {why}", case.name),
+        }
+    }
+    println!("{equal} of {} cases are equal in both", cases.len());
+    equal == cases.len()
+}
+
+/// The passes' best times of a side.
+#[derive(Clone, Copy)]
+struct Times {
+    best: f64,
+    worst: f64,
+}
+
+impl Times {
+    const NONE: Times = Times {
+        best: f64::INFINITY,
+        worst: 0.0,
+    };
+
+    fn take(&mut self, time: f64) {
+        self.best = self.best.min(time);
+        self.worst = self.worst.max(time);
+    }
+
+    /// How far apart they are, in percent.
+    fn spread(self) -> f64 {
+        (self.worst / self.best - 1.0) * 100.0
+    }
+}
+
+/// Times all cases and prints the table.
+fn table(cases: &[Case]) -> bool {
+    let mut all = vec![[Times::NONE; Side::ALL.len()]; cases.len()];
+    for _ in 0..PASSES {
+        for (case, times) in cases.iter().zip(&mut all) {
+            let sides: Vec<Side> = case.sides().collect();
+            let calls = sides.iter().map(|side| Timed::new(case.call(*side), ROOM));
+            let mut calls: Vec<Timed<'_>> = calls.collect();
+            clock::rounds(&mut calls, LONG);
+            for (side, timed) in sides.iter().zip(&calls) {
+                times[*side as usize].take(timed.best);
+            }
+        }
+    }
+
+    println!();
+    println!("| case | Rust ns | port ns | ratio | goal | spread | stand-in ns |");
+    println!("|---|--:|--:|--:|--:|--:|--:|");
+    for (case, [rust, standin, port]) in cases.iter().zip(&all) {
+        let ratio = port.best / rust.best;
+        let spread = rust.spread().max(port.spread());
+        let standin = match standin.best {
+            f64::INFINITY => "-".to_owned(),
+            best => format!("{best:.0}"),
+        };
+        println!(
+            "| {} | {:.0} | {:.0} | {ratio:.2} | {:.1} | {spread:.0} % | {standin} |",
+            case.name, rust.best, port.best, case.goal
+        );
+    }
+    let chunk = inputs::records(512, true);
+    let mut open = [Timed::new(timed::open(&chunk), 0)];
+    clock::rounds(&mut open, LONG);
+    println!();
+    println!(
+        "Not in the Rust's figures: to open a chunk, {:.0} ns.",
+        open[0].best
+    );
+    println!("Not timed: the header's checksum, which has no C call.");
+    true
+}
+
+/// Calls one side of a case.
+fn run(cases: &[Case], side: &str, name: &str, calls: &str) -> bool {
+    let case = cases.iter().find(|case| case.name == name);
+    let side = case.and_then(|case| case.sides().find(|known| known.name() == side));
+    let (Some(case), Some(side), Ok(calls)) = (case, side, calls.parse::<u64>()) else {
+        eprintln!("no such case, side or number; the cases are:");
+        cases.iter().for_each(|case| eprintln!("{}", case.name));
+        return false;
+    };
+    let mut call = case.call(side);
+    let mut words = vec![1; ROOM];
+    for _ in 0..calls {
+        std::hint::black_box(call(&mut words));
+    }
+    true
+}

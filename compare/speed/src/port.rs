@@ -1,0 +1,86 @@
+//! The port's calls (include/doortumble.h).
+
+use compare::oracle::tokens::Asked;
+use compare::timed::Call;
+
+unsafe extern "C" {
+    fn doortumble_list(
+        chunk: *const u8,
+        chunk_len: usize,
+        recovery: u32,
+        rows: *mut u64,
+        rows_len: usize,
+    ) -> u64;
+    fn doortumble_sheet(
+        stream: *const u8,
+        stream_len: usize,
+        start: u32,
+        length: u32,
+        dependencies: u32,
+        inline_names: u32,
+        sheet: *mut u64,
+        sheet_len: usize,
+    ) -> u64;
+    fn doortumble_owners(
+        stream: *const u8,
+        stream_len: usize,
+        start: u32,
+        length: u32,
+        dependencies: u32,
+        inline_names: u32,
+        table: *mut u32,
+        table_len: usize,
+    ) -> u64;
+}
+
+pub fn list(chunk: &[u8], recovery: bool) -> Call<'_> {
+    Box::new(move |rows| {
+        // SAFETY: bytes and words are good for their lengths.
+        unsafe {
+            doortumble_list(
+                chunk.as_ptr(),
+                chunk.len(),
+                u32::from(recovery),
+                rows.as_mut_ptr(),
+                rows.len(),
+            )
+        }
+    })
+}
+
+pub fn sheet(stream: &[u8], asked: Asked) -> Call<'_> {
+    Box::new(move |sheet| {
+        // SAFETY: bytes and words are good for their lengths.
+        unsafe {
+            doortumble_sheet(
+                stream.as_ptr(),
+                stream.len(),
+                asked.start as u32,
+                asked.length as u32,
+                u32::from(asked.dependencies),
+                u32::from(asked.inline_names),
+                sheet.as_mut_ptr(),
+                sheet.len(),
+            )
+        }
+    })
+}
+
+/// The table has two words of 32 bits in each of the lent ones.
+pub fn owners(stream: &[u8], asked: Asked) -> Call<'_> {
+    Box::new(move |table| {
+        // SAFETY: bytes and words are good for their lengths.
+        unsafe {
+            doortumble_owners(
+                stream.as_ptr(),
+                stream.len(),
+                asked.start as u32,
+                asked.length as u32,
+                u32::from(asked.dependencies),
+                u32::from(asked.inline_names),
+                table.as_mut_ptr().cast(),
+                table.len() * 2,
+            )
+        }
+    })
+}

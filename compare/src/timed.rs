@@ -1,0 +1,233 @@
+//! The printed Rust as the benchmark calls it: the record walk into rows, the token walk into a
+//! sheet.
+//!
+//! Each stands behind a call of the C ABI that is never inlined, as the port's calls do. What the
+//! printed code wants beside the bytes is made before the clock starts: the opened chunk, and the
+//! arena, which each call resets and so uses again.
+
+use crate::binxml::BinXmlTemplateValues;
+use crate::binxml::tokens::{Stream, TokenSink, walk_tokens};
+use crate::binxml::value_variant::BinXmlValue;
+use crate::err::{EvtxError, Result as EvtxResult};
+use crate::evtx_chunk::{RawRecord, raw_walk};
+use crate::oracle::kinds;
+use crate::oracle::refusal::Refusal;
+use crate::oracle::tokens::Asked;
+use crate::utils::Utf16LeSlice;
+use crate::{
+    Bump, ChunkOffset, EvtxChunk, EvtxChunkHeader, ParserSettings, WINDOWS_1252, evtx_parser,
+};
+use std::hint::black_box;
+use std::slice::{from_raw_parts, from_raw_parts_mut};
+use std::sync::Arc;
+
+/// The memchr that the printed code searches with; empty for the stand-in.
+pub const MEMCHR: &str = env!("MEMCHR");
+
+/// What of a sheet's word the printed walk tells its sink: kind, number and flag. Where a token
+/// stands and how long it is it does not tell.
+pub const TOLD: u64 = 0xf << 60 | 0xffff << 10 | 1 << 9;
+
+/// Bytes of a record before its payload, and around it.
+const RECORD_HEAD: u64 = 24;
+const RECORD_FRAME: u64 = 28;
+
+/// A call on lent words, which answers one word as the port's calls do.
+pub type Call<'a> = Box<dyn FnMut(&mut [u64]) -> u64 + 'a>;
+
+/// The whole record walk of a chunk, five words an answer.
+pub fn list(chunk: &[u8], recovery: bool) -> Call<'_> {
+    // Never freed: the opened chunk borrows it, and a closure cannot own both.
+    let header: &EvtxChunkHeader = Box::leak(Box::new(header_of(chunk)));
+    let chunk = raw_walk::bare_chunk(chunk, header, recovery);
+    // SAFETY: the words are lent for the call.
+    Box::new(move |rows| unsafe { list_into(black_box(&chunk), rows.as_mut_ptr(), rows.len()) })
+}
+
+/// What `list` does before the clock starts: the chunk's header is read and the chunk is opened.
+pub fn open(chunk: &[u8]) -> Call<'_> {
+    let settings = Arc::new(ParserSettings::default());
+    Box::new(move |_| {
+        let header = header_of(black_box(chunk));
+        let opened = EvtxChunk::new(chunk, &header, settings.clone()).expect("a sound chunk");
+        black_box(&opened);
+        0
+    })
+}
+
+/// The token walk of a stream, a word a token.
+pub fn sheet(stream: &[u8], asked: Asked) -> Call<'_> {
+    // The printed walk takes names for inline ones where it is given no chunk; it looks at nothing
+    // in it.
+    let header: &EvtxChunkHeader = Box::leak(Box::new(raw_walk::blank_header()));
+    let chunk = raw_walk::bare_chunk(stream, header, false);
+    let mut arena = Bump::with_capacity(evtx_parser::EVTX_CHUNK_SIZE);
+    Box::new(move |sheet| {
+        let chunk = (!asked.inline_names).then_some(&chunk);
+        // SAFETY: the bytes live as long as this closure, and the words are lent for the call.
+        unsafe {
+            sheet_into(
+                black_box(stream.as_ptr()),
+                stream.len(),
+                asked.start as u32,
+                asked.length as u32,
+                u32::from(asked.dependencies),
+                chunk,
+                &mut arena,
+                sheet.as_mut_ptr(),
+                sheet.len(),
+            )
+        }
+    })
+}
+
+/// The answer word of a refusal.
+pub fn refused(refusal: Refusal) -> u64 {
+    1 << 63 | u64::from(refusal.number) << 56 | refusal.place
+}
+
+fn header_of(chunk: &[u8]) -> EvtxChunkHeader {
+    EvtxChunkHeader::from_bytes(chunk).expect("a sound chunk")
+}
+
+/// # Safety
+/// `rows` is good for `len` words.
+#[inline(never)]
+unsafe extern "C" fn list_into(chunk: &EvtxChunk<'_>, rows: *mut u64, len: usize) -> u64 {
+    // SAFETY: as the caller says.
+    let rows = unsafe { from_raw_parts_mut(rows, len) }.as_chunks_mut().0;
+    let mut count = 0;
+    for answer in chunk.iter_raw() {
+        let Some(row) = rows.get_mut(count) else {
+            return refused(Refusal::new(16, 0));
+        };
+        *row = match answer {
+            Ok(raw) => row_of(chunk, &raw),
+            Err(err) => refused_row(&err),
+        };
+        count += 1;
+    }
+    count as u64
+}
+
+/// A record's row. The FILETIME is read again: the way back from the timestamp that the walk has
+/// made of it is long, and nobody who has a timestamp goes it.
+#[inline(always)]
+fn row_of(chunk: &EvtxChunk<'_>, raw: &RawRecord<'_>) -> [u64; 5] {
+    black_box(&raw.timestamp);
+    let payload = raw.binxml_offset as usize;
+    let filetime = chunk.data[payload - 8..payload]
+        .try_into()
+        .expect("8 bytes");
+    [
+        if raw.recovered { 2 } else { 1 },
+        raw.binxml_offset - RECORD_HEAD,
+        raw.bytes.len() as u64 + RECORD_FRAME,
+        raw.event_record_id,
+        u64::from_le_bytes(filetime),
+    ]
+}
+
+#[cold]
+fn refused_row(err: &EvtxError) -> [u64; 5] {
+    let EvtxError::FailedToReadRecordAt { offset, source, .. } = err else {
+        panic!("not an error of the walk: {err:?}");
+    };
+    let refusal = Refusal::of_record(source, *offset);
+    [3, refusal.place, u64::from(refusal.number), 0, 0]
+}
+
+/// # Safety
+/// `stream` and `sheet` are good for their lengths.
+#[inline(never)]
+#[allow(clippy::too_many_arguments, reason = "the port's call has as many")]
+unsafe extern "C" fn sheet_into(
+    stream: *const u8,
+    stream_len: usize,
+    start: u32,
+    length: u32,
+    dependencies: u32,
+    chunk: Option<&EvtxChunk<'_>>,
+    arena: &mut Bump,
+    sheet: *mut u64,
+    sheet_len: usize,
+) -> u64 {
+    arena.reset();
+    let stream = Stream {
+        // SAFETY: as the caller says.
+        data: unsafe { from_raw_parts(stream, stream_len) },
+        chunk,
+        ansi_codec: WINDOWS_1252,
+        bump: arena,
+    };
+    let mut sheet = Sheet {
+        // SAFETY: as the caller says.
+        words: unsafe { from_raw_parts_mut(sheet, sheet_len) },
+        count: 0,
+    };
+    let (start, length) = (start as usize, length as usize);
+    match walk_tokens(stream, start, length, dependencies != 0, &mut sheet) {
+        Ok(()) => sheet.count as u64,
+        Err(err) => refused(Refusal::of_walk(&err)),
+    }
+}
+
+/// A sink that writes a word a token.
+struct Sheet<'s> {
+    words: &'s mut [u64],
+    count: usize,
+}
+
+impl Sheet<'_> {
+    #[inline(always)]
+    fn put(&mut self, kind: u8, number: u16, flag: bool) -> EvtxResult<()> {
+        let Some(word) = self.words.get_mut(self.count) else {
+            return Err(EvtxError::FailedToCreateRecordModel("no room"));
+        };
+        *word = u64::from(kind) << 60 | u64::from(number) << 10 | u64::from(flag) << 9;
+        self.count += 1;
+        Ok(())
+    }
+}
+
+impl<'a> TokenSink<'a> for Sheet<'_> {
+    fn template_instance(&mut self, _: BinXmlTemplateValues<'a>) -> EvtxResult<()> {
+        self.put(kinds::INSTANCE, 0, false)
+    }
+    fn open_start(&mut self, _: ChunkOffset, dependency: Option<u16>) -> EvtxResult<()> {
+        self.put(kinds::OPEN, dependency.unwrap_or(0), dependency.is_some())
+    }
+    fn close_start(&mut self) -> EvtxResult<()> {
+        self.put(kinds::CLOSE_START, 0, false)
+    }
+    fn close_empty(&mut self) -> EvtxResult<()> {
+        self.put(kinds::CLOSE_EMPTY, 0, false)
+    }
+    fn close_element(&mut self) -> EvtxResult<()> {
+        self.put(kinds::CLOSE_ELEMENT, 0, false)
+    }
+    fn value(&mut self, _: BinXmlValue<'a>) -> EvtxResult<()> {
+        self.put(kinds::VALUE, 0, false)
+    }
+    fn attribute(&mut self, _: ChunkOffset) -> EvtxResult<()> {
+        self.put(kinds::ATTRIBUTE, 0, false)
+    }
+    fn entity_ref(&mut self, _: ChunkOffset) -> EvtxResult<()> {
+        self.put(kinds::ENTITY_REF, 0, false)
+    }
+    fn pi_target(&mut self, _: ChunkOffset) -> EvtxResult<()> {
+        self.put(kinds::PI_TARGET, 0, false)
+    }
+    fn pi_data(&mut self, _: Utf16LeSlice<'a>) -> EvtxResult<()> {
+        self.put(kinds::PI_DATA, 0, false)
+    }
+    fn cdata(&mut self, _: Utf16LeSlice<'a>) -> EvtxResult<()> {
+        self.put(kinds::CDATA, 0, false)
+    }
+    fn char_ref(&mut self, ch: u16) -> EvtxResult<()> {
+        self.put(kinds::CHAR_REF, ch, false)
+    }
+    fn substitution(&mut self, id: u16, optional: bool) -> EvtxResult<()> {
+        self.put(kinds::SUBSTITUTION, id, optional)
+    }
+}
