@@ -37,7 +37,7 @@ fn read(arguments: &[String]) -> Option<(u64, usize, &str, Option<usize>)> {
 }
 
 fn usage() -> ExitCode {
-    let kinds = "chunk|token|body|types|lists|stored";
+    let kinds = "chunk|token|body|types|short|three|lists|stored";
     eprintln!("usage: make-cases SEED COUNT {kinds} [--only NUMBER] >batch");
     ExitCode::from(2)
 }

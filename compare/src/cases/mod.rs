@@ -5,6 +5,7 @@ mod chunk_cases;
 mod chunks;
 pub mod lists;
 pub mod random;
+mod short;
 mod stored;
 mod stored_bodies;
 mod stored_tokens;
@@ -37,10 +38,13 @@ impl Case {
 }
 
 /// The first `count` cases of a kind, if there is such a kind. The stored ones, those of the type
-/// codes and those of short lists are the same for every seed; the others have no end.
+/// codes, short streams and short lists are the same for every seed; of `three` the seed is the first byte; the others
+/// have no end.
 pub fn make(kind: &str, seed: u64, count: usize) -> Option<Box<dyn Iterator<Item = Case>>> {
     let of_one_input = match kind {
         "stored" => return Some(Box::new(stored::cases().into_iter().take(count))),
+        "short" => return Some(Box::new(short::cases().take(count))),
+        "three" => return Some(Box::new(short::of_three(seed as u8).take(count))),
         "types" => return Some(Box::new(types::cases().take(count))),
         "lists" => return Some(Box::new(body_cases::short_lists().take(count))),
         "chunk" => chunk_cases::of_one_chunk,
