@@ -4,10 +4,11 @@
 //! points at each of them by its full path. `EVTX_SRC` names the folder that holds them (the one
 //! with INDEX.md); a relative one counts from the repository's root.
 //!
-//! The package compare-vector is the same sources with the true memchr in place of its stand-in,
-//! for the benchmark. `MEMCHR_SRC` names the folder of memchr's source; without it that package has
-//! the stand-in too. The source is compiled here and not by cargo, which would have to find it, and
-//! the crates that it names, before it builds anything at all.
+//! The package compare-vector is the same sources with the true memchr and crc32fast in place of
+//! their stand-ins, for the benchmark. `MEMCHR_SRC` names the folder of memchr's source, `CRC_SRC`
+//! that of crc32fast's, with cfg-if's beside it; without them that package has the stand-ins too. The
+//! sources are compiled here and not by cargo, which would have to find them, and the crates that
+//! they name, before it builds anything at all.
 
 use std::path::{Path, PathBuf};
 use std::process::Command;
@@ -41,6 +42,9 @@ fn main() {
     println!("cargo::rustc-check-cfg=cfg(true_memchr)");
     let memchr = if vector { memchr(root, &out) } else { None };
     println!("cargo::rustc-env=MEMCHR={}", memchr.unwrap_or_default());
+    println!("cargo::rustc-check-cfg=cfg(true_crc32fast)");
+    let crc = if vector { crc32fast(root, &out) } else { None };
+    println!("cargo::rustc-env=CRC={}", crc.unwrap_or_default());
 }
 
 /// Compiles memchr where its source is at hand, and hands back the name of the source's folder. The
@@ -52,24 +56,65 @@ fn memchr(root: &Path, out: &Path) -> Option<String> {
     let file = folder.join("src/lib.rs");
     println!("cargo::rerun-if-changed={}", file.display());
 
-    let mut rustc = Command::new(env::var_os("RUSTC").expect("set by cargo"));
-    rustc.args(["--crate-name=true_memchr", "--crate-type=rlib"]);
-    rustc.args(["--edition=2018", "--cap-lints=allow"]);
-    rustc.args(["-Copt-level=3", "-Ccodegen-units=1"]);
+    let mut rustc = rustc("true_memchr", "2018", out);
     rustc.arg("--cfg=feature=\"std\"");
     if env::var("CARGO_CFG_TARGET_ARCH").is_ok_and(|arch| arch == "x86_64") {
         for part in ["simd", "sse2", "sse42", "avx"] {
             rustc.arg(format!("--cfg=memchr_runtime_{part}"));
         }
     }
-    let target = env::var("TARGET").expect("set by cargo");
-    rustc.args(["--target", &target, "--out-dir"]).arg(out);
-    let status = rustc.arg(&file).status().expect("rustc runs");
-    assert!(status.success(), "no memchr from {}", file.display());
+    compile(rustc, &file);
 
     println!("cargo::rustc-link-search={}", out.display());
     println!("cargo::rustc-cfg=true_memchr");
     Some(folder.file_name()?.display().to_string())
+}
+
+/// The same of crc32fast, and of cfg-if, which it names: its folder stands beside.
+fn crc32fast(root: &Path, out: &Path) -> Option<String> {
+    println!("cargo::rerun-if-env-changed=CRC_SRC");
+    let folder = root.join(env::var_os("CRC_SRC")?);
+    let beside = fs::read_dir(folder.parent()?).ok()?;
+    let is_cfg_if = |path: &PathBuf| path.to_string_lossy().contains("/cfg-if-");
+    let cfg_if = beside
+        .flatten()
+        .map(|entry| entry.path())
+        .find(is_cfg_if)?
+        .join("src/lib.rs");
+    compile(rustc("cfg_if", "2018", out), &cfg_if);
+
+    let file = folder.join("src/lib.rs");
+    println!("cargo::rerun-if-changed={}", file.display());
+    let mut rustc = rustc("true_crc32fast", "2015", out);
+    rustc.args(["--cfg=feature=\"std\"", "--cfg=crc32fast_stdarchx86"]);
+    let named = format!("cfg_if={}", out.join("libcfg_if.rlib").display());
+    rustc.args(["--extern", &named]);
+    compile(rustc, &file);
+
+    println!("cargo::rustc-link-search={}", out.display());
+    println!("cargo::rustc-cfg=true_crc32fast");
+    Some(folder.file_name()?.display().to_string())
+}
+
+/// A library of this name and edition, into this folder.
+fn rustc(name: &str, edition: &str, out: &Path) -> Command {
+    let mut rustc = Command::new(env::var_os("RUSTC").expect("set by cargo"));
+    rustc.arg(format!("--crate-name={name}"));
+    rustc.args([
+        "--crate-type=rlib",
+        "--edition",
+        edition,
+        "--cap-lints=allow",
+    ]);
+    rustc.args(["-Copt-level=3", "-Ccodegen-units=1"]);
+    let target = env::var("TARGET").expect("set by cargo");
+    rustc.args(["--target", &target, "--out-dir"]).arg(out);
+    rustc
+}
+
+fn compile(mut rustc: Command, file: &Path) {
+    let status = rustc.arg(file).status().expect("rustc runs");
+    assert!(status.success(), "{} does not compile", file.display());
 }
 
 /// The module tree of the printed crate. Its places are those of the crate, since the files name

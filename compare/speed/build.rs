@@ -1,4 +1,4 @@
-//! Links the port's archive, which `rt staticlib doortumble` writes.
+//! Links the port's archives, which `rt staticlib` writes.
 
 use std::env;
 use std::path::PathBuf;
@@ -7,13 +7,15 @@ fn main() {
     let package = PathBuf::from(env::var_os("CARGO_MANIFEST_DIR").expect("set by cargo"));
     let root = package.join("../..").canonicalize().expect("the root");
     let folder = root.join("target/staticlib");
-    let archive = folder.join("libdoortumble.a");
-    assert!(
-        archive.is_file(),
-        "no {}: 'rt staticlib doortumble' writes it",
-        archive.display()
-    );
-    println!("cargo::rerun-if-changed={}", archive.display());
     println!("cargo::rustc-link-search=native={}", folder.display());
-    println!("cargo::rustc-link-lib=static=doortumble");
+    for library in ["doortumble", "checksum_call"] {
+        let archive = folder.join(format!("lib{library}.a"));
+        assert!(
+            archive.is_file(),
+            "no {}: 'rt staticlib {library}' writes it",
+            archive.display()
+        );
+        println!("cargo::rerun-if-changed={}", archive.display());
+        println!("cargo::rustc-link-lib=static={library}");
+    }
 }

@@ -11,6 +11,7 @@ mod standins;
 // that they ask for are found.
 extern crate self as ahash;
 extern crate self as bumpalo;
+#[cfg(not(true_crc32fast))]
 extern crate self as crc32fast;
 extern crate self as encoding_rs;
 extern crate self as jiff;
@@ -18,6 +19,8 @@ extern crate self as log;
 #[cfg(not(true_memchr))]
 extern crate self as memchr;
 extern crate self as serde_json;
+#[cfg(true_crc32fast)]
+extern crate true_crc32fast as crc32fast;
 #[cfg(true_memchr)]
 extern crate true_memchr as memchr;
 

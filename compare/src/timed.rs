@@ -9,7 +9,7 @@ use crate::binxml::BinXmlTemplateValues;
 use crate::binxml::tokens::{Stream, TokenSink, walk_tokens};
 use crate::binxml::value_variant::BinXmlValue;
 use crate::err::{EvtxError, Result as EvtxResult};
-use crate::evtx_chunk::{RawRecord, raw_walk};
+use crate::evtx_chunk::{RawRecord, chunk_header_crc, raw_walk};
 use crate::oracle::kinds;
 use crate::oracle::refusal::Refusal;
 use crate::oracle::tokens::Asked;
@@ -23,6 +23,9 @@ use std::sync::Arc;
 
 /// The memchr that the printed code searches with; empty for the stand-in.
 pub const MEMCHR: &str = env!("MEMCHR");
+
+/// The crc32fast that the printed code counts with; empty for the stand-in.
+pub const CRC: &str = env!("CRC");
 
 /// What of a sheet's word the printed walk tells its sink: kind, number and flag. Where a token
 /// stands and how long it is it does not tell.
@@ -42,6 +45,22 @@ pub fn list(chunk: &[u8], recovery: bool) -> Call<'_> {
     let chunk = raw_walk::bare_chunk(chunk, header, recovery);
     // SAFETY: the words are lent for the call.
     Box::new(move |rows| unsafe { list_into(black_box(&chunk), rows.as_mut_ptr(), rows.len()) })
+}
+
+/// Whether a chunk's header has the checksum that it stores: 1 or 0.
+pub fn checksum(chunk: &[u8]) -> Call<'_> {
+    // SAFETY: the bytes are lent for the call.
+    Box::new(move |_| unsafe { checksum_of(black_box(chunk).as_ptr(), chunk.len()) })
+}
+
+/// # Safety
+/// The bytes are good for their length.
+#[inline(never)]
+unsafe extern "C" fn checksum_of(chunk: *const u8, len: usize) -> u64 {
+    // SAFETY: as the caller says.
+    let chunk = unsafe { from_raw_parts(chunk, len) };
+    let stored = u32::from_le_bytes([chunk[124], chunk[125], chunk[126], chunk[127]]);
+    u64::from(stored == chunk_header_crc(chunk))
 }
 
 /// What `list` does before the clock starts: the chunk's header is read and the chunk is opened.

@@ -34,6 +34,7 @@ impl Side {
 /// What is called.
 #[derive(Clone, Copy, PartialEq, Eq)]
 pub enum Kind {
+    Checksum,
     List { recovery: bool },
     Sheet,
     Owners,
@@ -48,21 +49,28 @@ pub enum Input {
 pub struct Case {
     pub name: &'static str,
     pub kind: Kind,
-    pub goal: f64,
+    /// What the ratio is to be at most, if anybody said so.
+    pub goal: Option<f64>,
     pub input: Input,
 }
 
 impl Case {
-    /// The sides of the case. Only the record walk searches, so the rest has no stand-in's figure.
+    /// The sides of the case. Only the record walk searches and only the header has a checksum, so the rest has no
+    /// stand-in's figure.
     pub fn sides(&self) -> impl Iterator<Item = Side> {
-        let searches = matches!(self.kind, Kind::List { .. });
+        let stands_in = matches!(self.kind, Kind::List { .. } | Kind::Checksum);
         let all = Side::ALL.into_iter();
-        all.filter(move |side| searches || *side != Side::StandIn)
+        all.filter(move |side| stands_in || *side != Side::StandIn)
     }
 
     /// The call of a side. The Rust has no owner table: it makes the sheet.
     pub fn call(&self, side: Side) -> Call<'_> {
         match (self.kind, &self.input) {
+            (Kind::Checksum, Input::Chunk(chunk)) => match side {
+                Side::Rust => compare_vector::timed::checksum(chunk),
+                Side::StandIn => timed::checksum(chunk),
+                Side::Port => port::checksum(chunk),
+            },
             (Kind::List { recovery }, Input::Chunk(chunk)) => match side {
                 Side::Rust => compare_vector::timed::list(chunk, recovery),
                 Side::StandIn => timed::list(chunk, recovery),
@@ -136,19 +144,25 @@ pub fn all() -> Vec<Case> {
     let chunk = |name, recovery, chunk| Case {
         name,
         kind: Kind::List { recovery },
-        goal: 1.0,
+        goal: Some(1.0),
         input: Input::Chunk(chunk),
     };
     let stream = |name, kind, stream| Case {
         name,
         kind,
-        goal: if kind == Kind::Owners { 1.5 } else { 1.0 },
+        goal: Some(if kind == Kind::Owners { 1.5 } else { 1.0 }),
         input: Input::Stream(stream),
     };
     let repeated = inputs::repeated;
     let elements = inputs::elements;
     use Kind::{Owners, Sheet};
     vec![
+        Case {
+            name: "checksum of a header",
+            kind: Kind::Checksum,
+            goal: None,
+            input: Input::Chunk(inputs::sealed(inputs::records(512, true))),
+        },
         chunk("list: 127 of 512 bytes", false, inputs::records(512, true)),
         chunk("list: 127, recovery", true, inputs::records(512, true)),
         chunk("list: 127 carved", true, inputs::records(512, false)),

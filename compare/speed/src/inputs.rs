@@ -1,5 +1,6 @@
 //! What the calls are timed on: chunks and streams.
 
+use compare::Hasher;
 use compare::cases::random::Random;
 use compare::oracle::tokens::Asked;
 
@@ -38,6 +39,15 @@ pub fn records(size: usize, live: bool) -> Vec<u8> {
         record[16..24].copy_from_slice(&(FILETIME + id * 12_345).to_le_bytes());
         record[size - 4..].copy_from_slice(&stored);
     }
+    chunk
+}
+
+/// A chunk with the right checksum in its header.
+pub fn sealed(mut chunk: Vec<u8>) -> Vec<u8> {
+    let mut hasher = Hasher::new();
+    hasher.update(&chunk[..120]);
+    hasher.update(&chunk[128..FIRST]);
+    chunk[124..128].copy_from_slice(&hasher.finalize().to_le_bytes());
     chunk
 }
 

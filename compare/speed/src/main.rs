@@ -13,7 +13,7 @@ mod port;
 
 use cases::{Case, ROOM, Side};
 use clock::Timed;
-use compare_vector::timed::{self, MEMCHR};
+use compare_vector::timed::{self, CRC, MEMCHR};
 use std::process::ExitCode;
 use std::time::Duration;
 
@@ -47,6 +47,11 @@ fn check(cases: &[Case]) -> bool {
         println!("memchr is not at hand (MEMCHR_SRC): the Rust searches with the plain stand-in");
     } else {
         println!("the Rust searches with {MEMCHR}");
+    }
+    if CRC.is_empty() {
+        println!("crc32fast is not at hand (CRC_SRC): the Rust counts with the plain stand-in");
+    } else {
+        println!("the Rust counts its checksums with {CRC}");
     }
     let mut equal = 0;
     for case in cases {
@@ -111,9 +116,12 @@ fn table(cases: &[Case]) -> bool {
             f64::INFINITY => "-".to_owned(),
             best => format!("{best:.0}"),
         };
+        let goal = case
+            .goal
+            .map_or("-".to_owned(), |goal| format!("{goal:.1}"));
         println!(
-            "| {} | {:.0} | {:.0} | {ratio:.2} | {:.1} | {spread:.0} % | {standin} |",
-            case.name, rust.best, port.best, case.goal
+            "| {} | {:.0} | {:.0} | {ratio:.2} | {goal} | {spread:.0} % | {standin} |",
+            case.name, rust.best, port.best
         );
     }
     let chunk = inputs::records(512, true);
@@ -124,7 +132,6 @@ fn table(cases: &[Case]) -> bool {
         "Not in the Rust's figures: to open a chunk, {:.0} ns.",
         open[0].best
     );
-    println!("Not timed: the header's checksum, which has no C call.");
     true
 }
 

@@ -1,4 +1,4 @@
-//! The port's calls (include/doortumble.h).
+//! The port's calls (include/doortumble.h), and the one of crates/checksum_call.
 
 use compare::oracle::tokens::Asked;
 use compare::timed::Call;
@@ -11,6 +11,7 @@ unsafe extern "C" {
         rows: *mut u64,
         rows_len: usize,
     ) -> u64;
+    fn doortumble_bench_checksum(chunk: *const u8, chunk_len: usize) -> u32;
     fn doortumble_sheet(
         stream: *const u8,
         stream_len: usize,
@@ -46,6 +47,11 @@ pub fn list(chunk: &[u8], recovery: bool) -> Call<'_> {
             )
         }
     })
+}
+
+pub fn checksum(chunk: &[u8]) -> Call<'_> {
+    // SAFETY: the bytes are good for their length.
+    Box::new(move |_| unsafe { doortumble_bench_checksum(chunk.as_ptr(), chunk.len()).into() })
 }
 
 pub fn sheet(stream: &[u8], asked: Asked) -> Call<'_> {

@@ -1,4 +1,4 @@
--- `doortumble`: each C call allows one answer word and one content of the lent words. Assumes nothing.
+-- `doortumble` and `checksum_call`: each C call allows one answer word and one content of the lent words. Assumes nothing.
 use mathlib.Core.Path.{_≡_, sym, ap, _∙_}
 use contract.Lifetimes.{Lfts}
 use borrow.Fn.Kinds.{Dens, resT, endedOf}
@@ -12,7 +12,10 @@ use Rattle.doortumble.proofs.doortumble_owners.Kinds as ownersK
 use Rattle.doortumble.proofs.doortumble_owners.Reads as ownersR
 use Rattle.doortumble.proofs.doortumble_list.Kinds as listK
 use Rattle.doortumble.proofs.doortumble_list.Reads as listR
+use Rattle.checksum_call.proofs.doortumble_bench_checksum.Kinds as checksumK
+use Rattle.checksum_call.proofs.doortumble_bench_checksum.Reads as checksumR
 use Rattle.promises.proofs.OfChunk.{lists-by}
+use Rattle.promises.proofs.One.{Single}
 
 pub sheet : (κs : Lfts 2) (a : Dens κs sheetK.ps) (x y : resT sheetK.r κs .Denot) (s t : AtExit (endedOf 2 sheetK.ps sheetK.r) κs)
     → sheetR.Post κs a x s → sheetR.Post κs a y t → (x ≡ y) × (s .1 .1 .1 .1 .1 .0 .now ≡ t .1 .1 .1 .1 .1 .0 .now)
@@ -29,3 +32,6 @@ pub list : (κs : Lfts 2) (a : Dens κs listK.ps) (x y : resT listK.r κs .Denot
 list κs a x y s t p q =
     let e = lists-by _ _ _ _ _ (p .0) (q .0) (fieldsAt _) (p .1 .1) (q .1 .1) in
     (p .1 .0 ∙ ap packedOf (e .0) ∙ sym (q .1 .0), e .1)
+
+pub checksum : Single 1 checksumK.ps checksumK.r checksumR.Post
+checksum κs a x y s t p q = p ∙ sym q

@@ -1,0 +1,2 @@
+-- The definition that the contract of `checksum_call` cites.
+pub mod Said
