@@ -12,3 +12,4 @@ pub mod OfBody
 pub mod OfDoortumble
 pub mod Resume
 pub mod Samples
+pub mod Calls

@@ -1,0 +1,54 @@
+-- What each public call answers on a small input holds: computed on the definitions that the contracts cite. Assumes nothing.
+use mathlib.Core.Path.{refl}
+use Rattle.cursor.specs.Reads.{little, startsWith, arrayAt}
+use Rattle.cursor.specs.Text.{unitsOf, beforeZero}
+use Rattle.name.specs.Hash.{hashFrom}
+use Rattle.value.specs.Kinds.{among, knownCode, widthOf}
+use Rattle.value.specs.Scalar.{bitsOf, realOf, unsignedOf, decodedOf}
+use Rattle.value.specs.Value.{sizedAt, unsizedAt}
+use Rattle.record.specs.Chunk.{fieldsAt, offsetsAt}
+use Rattle.record.specs.Record.{plainAt, strictAt, payloadOf}
+use Rattle.tokens.specs.Instance.{tableAt, valuesAt}
+use Rattle.tokens.specs.Single.{singleOf, endsOf}
+use Rattle.tokens.specs.Token.{smallAt, textsAt, namesAt, otherAt}
+use Rattle.tokens.specs.Walk.{turnAt, stepFrom, walkFrom, walkOf}
+use Rattle.promises.specs.Calls.{Calls}
+
+pub calls : Calls
+unfolding little startsWith arrayAt unitsOf beforeZero hashFrom among knownCode widthOf bitsOf realOf unsignedOf decodedOf sizedAt unsizedAt fieldsAt offsetsAt plainAt strictAt payloadOf tableAt valuesAt singleOf endsOf smallAt textsAt namesAt otherAt turnAt stepFrom walkFrom walkOf
+calls =
+    record {
+      read = refl;
+      number = refl;
+      moved = refl;
+      taken = refl;
+      part-of = refl;
+      counted = refl;
+      prefixed = refl;
+      zero-ended = refl;
+      sid = refl;
+      array = refl;
+      begins = refl;
+      unit = refl;
+      hash = refl;
+      known = refl;
+      width = refl;
+      element = refl;
+      decode = refl;
+      tokens = refl;
+      values = refl;
+      next = refl;
+      single = refl;
+      ends = refl;
+      fields = refl;
+      strings = refl;
+      check = refl;
+      one-record = refl;
+      payload = refl;
+      start = refl;
+      resync = refl;
+      list = (refl, refl);
+      counts = refl;
+      refuses = refl;
+      said = refl;
+    }

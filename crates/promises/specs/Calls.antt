@@ -1,0 +1,107 @@
+-- What each public call answers on a small input, by the definition that its contract cites. Each answer here is one that is easily got
+-- wrong: a must-fail edit puts the wrong one in its place.
+use mathlib.Core.Path.{_≡_}
+use mathlib.Core.Bool.{Bool, true, false}
+use mathlib.Core.List.{List, [], _∷_, _++_}
+use Prim.Native.Nat.{ℕ}
+use lib.ListN.{length, getD, replicate}
+use Rattle.cursor.specs.Answer.{Answer, given, refused}
+use Rattle.cursor.specs.Reads.{numberAt, numberOf, setTo, takeAt, partOf, sidAt, arrayAt, startsWith}
+use Rattle.cursor.specs.Text.{unitsOf, countedAt, prefixedAt, zeroEndedAt}
+use Rattle.cursor.specs.declared.Part.{Part}
+use Rattle.cursor.specs.declared.View.{View}
+use Rattle.cursor.specs.declared.Counted.the-variants as C
+use Rattle.name.specs.Hash.{hashOf}
+use Rattle.value.specs.Kinds.{knownCode, widthOf, elementWidthOf}
+use Rattle.value.specs.Scalar.{decodedOf, decoded}
+use Rattle.value.specs.declared.Scalar.the-variants.{Unsigned}
+use Rattle.record.specs.Answers.{refusalOf}
+use Rattle.record.specs.Chunk.{fieldsAt, stringsOf, checksumAt}
+use Rattle.record.specs.Record.{recordAt, payloadOf}
+use Rattle.chunk.specs.Walk.{startOf, ResyncAfter}
+use Rattle.chunk.specs.Listing.{Lists}
+use Rattle.chunk.specs.declared.Place.the-variants as P
+use Rattle.chunk.specs.declared.Resync.the-variants as R
+use Rattle.chunk.specs.declared.Walk.{Walk}
+use Rattle.tokens.specs.Instance.{valuesOf, nextOf}
+use Rattle.tokens.specs.Single.{singleOf, endsOf}
+use Rattle.tokens.specs.Walk.{walkOf, countedOf}
+use Rattle.tokens.specs.declared.Ends.the-variants as E
+use Rattle.tokens.specs.declared.NextValue.the-variants as N
+use Rattle.tokens.specs.declared.Single.the-variants as S
+use Rattle.tokens.specs.declared.Values.{Values}
+use Rattle.doortumble.specs.Calls.{packedOf}
+use Rattle.checksum_call.specs.Said.{saidOf}
+use Rattle.promises.specs.Samples.{emptyElement, whole, walkOn}
+
+abbrev part : ℕ → ℕ → Part
+part start len = record { start = start; len = len }
+
+abbrev view : ℕ → ℕ → View
+view start len = record { part = part start len }
+
+abbrev three : List ℕ
+three = 1 ∷ 2 ∷ 3 ∷ []
+
+pub record Calls : Type 0 where
+  -- `u8` to `u64`: three bytes are no number of four; 3, where the read starts
+  pub read : numberAt three 0 4 ≡ refused 3 0
+  -- `u8_at` to `u64_at`: bytes past the end count as zeros
+  pub number : numberOf three 1 4 ≡ 0x0302
+  -- `with_pos`, `set_pos`: the end itself is allowed
+  pub moved : setTo three 3 ≡ given tt 3
+  -- `take_bytes`: 3, where the read starts
+  pub taken : takeAt three 1 3 ≡ refused 3 1
+  -- `Part::of`: nothing of a part that does not lie within
+  pub part-of : partOf three (part 2 2) ≡ []
+  -- `utf16_by_char_count`: a view without its zero unit, the position after all units
+  pub counted : countedAt (0x41 ∷ 0 ∷ 0 ∷ 0 ∷ []) 0 2 ≡ given (view 0 2) 4
+  -- `len_prefixed_utf16_string`: the unit after a text that is terminated must be there
+  pub prefixed : prefixedAt (1 ∷ 0 ∷ 0x41 ∷ 0 ∷ []) 0 true ≡ refused 3 4
+  -- `null_terminated_utf16_string`: each unit is a read of its own; 3 at the one that is cut
+  pub zero-ended : zeroEndedAt (0x41 ∷ 0 ∷ 0x42 ∷ []) 0 ≡ refused 3 2
+  -- `read_sid`: eight bytes, and four for each group
+  pub sid : sidAt (1 ∷ 1 ∷ replicate 10 0) 0 ≡ given (part 0 12) 12
+  -- `read_array`: the size is looked at before the bytes
+  pub array : arrayAt [] 0 4 6 ≡ refused 10 0
+  -- `begins`: a slice that is too short does not begin with a magic
+  pub begins : startsWith (0x2A ∷ []) (0x2A ∷ 0x2A ∷ []) ≡ false
+  -- `unit_at`: an odd byte at the end is no unit
+  pub unit : getD (unitsOf three) 1 0 ≡ 0
+  -- `name_hash`: the low 16 bits
+  pub hash : hashOf (0xFFFF ∷ 0xFFFF ∷ []) ≡ 0xFFC0
+  -- `Kind::known`, `width`, `element_width`
+  pub known : knownCode 0x16 ≡ false
+  pub width : widthOf 0x12 ≡ 16
+  pub element : elementWidthOf 0x8F ≡ 16
+  -- `decode`: a 10 of four bytes is a number
+  pub decode : decodedOf 0x10 (7 ∷ 0 ∷ 0 ∷ 0 ∷ []) ≡ decoded 7 (Unsigned 7)
+  -- `tokens::count`: the end byte is no token
+  pub tokens : countedOf (walkOn (whole emptyElement)) ≡ C.Count 2
+  -- `Values::of`: the values begin where the instance says, not at their descriptors
+  pub values : valuesOf (record { id = 0; offset = 0; guid = part 0 0; table = 14; count = 1; values = 18 }) .at ≡ 18
+  -- `Values::next`: where none is left, done, whatever the stream holds
+  pub next : nextOf [] (record { table = 14; left = 0; at = 18 }) ≡ N.Done
+  -- `single_instance_offset`: a header and 0C with a byte after it
+  pub single : singleOf (0x0F ∷ 1 ∷ 1 ∷ 0 ∷ 0x0C ∷ 1 ∷ []) ≡ S.At 5
+  -- `ends_stream`: what was consumed reaches past the end
+  pub ends : endsOf three 4 ≡ E.Beyond
+  -- `read_fields`, `read_header`: the length first
+  pub fields : fieldsAt three ≡ refused 1 0
+  pub strings : stringsOf [] ≡ replicate 64 0
+  -- `check_header`: of no chunk neither yes nor no
+  pub check : checksumAt three ≡ refused 1 0
+  -- `read_record`: the chunk's length before all else
+  pub one-record : recordAt three 9 false ≡ refused 1 0
+  -- `Record::payload`: the size minus 28 bytes, from 24 on
+  pub payload : payloadOf (replicate 24 0 ++ (7 ∷ 8 ∷ 0 ∷ 0 ∷ 0 ∷ 0 ∷ [])) (record { offset = 0; size = 30; id = 0; time = 0 }) ≡ 7 ∷ 8 ∷ []
+  -- `Walk::start`
+  pub start : startOf true .place ≡ P.At 512
+  -- `resync_after`, `list`: the chunk's refusal; nothing is written
+  pub resync : ResyncAfter three 0 (R.Refused (refusalOf 1 0))
+  pub list : Lists three (startOf true) (9 ∷ []) (9 ∷ []) (C.Refused (refusalOf 1 0))
+  -- the C calls' answer word: a count as it is; a refusal's number and place
+  pub counts : packedOf (C.Count 2) ≡ 2
+  pub refuses : packedOf (C.Refused (refusalOf 9 1)) ≡ 0x8900000000000001
+  -- `doortumble_bench_checksum`
+  pub said : saidOf (refused 1 0) ≡ 2
