@@ -63,8 +63,8 @@ abbrev pub decimalOf : ℕ → List ℕ
 decimalOf n = decimalIn 20 n
 
 -- a space and a number
-abbrev pub numberOf : ℕ → List ℕ
-numberOf n = ascii " " ++ decimalOf n
+abbrev pub spacedNumber : ℕ → List ℕ
+spacedNumber n = ascii " " ++ decimalOf n
 
 -- a byte in two hexadecimal digits; a number of four bytes, and one of eight, the most significant first
 abbrev pub hexByte : ℕ → List ℕ
@@ -90,7 +90,7 @@ spacedWord n = ascii " " ++ hexWord n
 
 -- a line: a word and numbers
 abbrev pub lineOf : List ℕ → List ℕ → List ℕ
-lineOf word ns = word ++ each numberOf ns ++ ascii "\n"
+lineOf word ns = word ++ each spacedNumber ns ++ ascii "\n"
 
 abbrev pub refusedOf : Refusal → List ℕ
 refusedOf r = lineOf (ascii "refused") (r .number ∷ r .place ∷ [])

@@ -5,7 +5,7 @@ ghost use mathlib.Core.Path.{_≡_};
 ghost use mathlib.Core.List.{_∷_, [], _++_};
 ghost use Prim.Native.Nat.{_<_, _≤_};
 ghost use lib.ListN.{length, drop};
-ghost use Rattle.print.specs.Text.{ascii, Puts, each, digit as Text·digit, decimalIn, decimalOf, numberOf, hexByte, hexHalf, hexWord, hexOf, spacedHalf, spacedWord, lineOf, refusedOf};
+ghost use Rattle.print.specs.Text.{ascii, Puts, each, digit as Text·digit, decimalIn, decimalOf, spacedNumber, hexByte, hexHalf, hexWord, hexOf, spacedHalf, spacedWord, lineOf, refusedOf};
 
 pub fn byte(out: &mut [u8], at: usize, b: u8) -> usize
     ensures { λ r. ⌜ Puts (b ∷ []) (now (out .entry)) at (now (out .exit)) r ⌝ }
@@ -63,7 +63,7 @@ fn digit(n: u8) -> u8
 
 // A space and a number.
 pub fn number(out: &mut [u8], at: usize, n: u64) -> usize
-    ensures { λ r. ⌜ Puts (numberOf n) (now (out .entry)) at (now (out .exit)) r ⌝ }
+    ensures { λ r. ⌜ Puts (spacedNumber n) (now (out .entry)) at (now (out .exit)) r ⌝ }
 {
     let after = byte(out, at, b' ');
     decimal(out, after, n)
@@ -116,7 +116,7 @@ fn hex_bytes(out: &mut [u8], at: usize, bytes: &[u8]) -> usize
 
 // Numbers, each after a space: of eight bytes, of four; and the same in hexadecimal.
 pub fn numbers(out: &mut [u8], at: usize, list: &[u64]) -> usize
-    ensures { λ r. ⌜ Puts (each numberOf (now (list .entry))) (now (out .entry)) at (now (out .exit)) r ⌝ }
+    ensures { λ r. ⌜ Puts (each spacedNumber (now (list .entry))) (now (out .entry)) at (now (out .exit)) r ⌝ }
 {
     let mut end = at;
     for i in 0..list.len() {
@@ -126,7 +126,7 @@ pub fn numbers(out: &mut [u8], at: usize, list: &[u64]) -> usize
 }
 
 pub fn halves(out: &mut [u8], at: usize, list: &[u32]) -> usize
-    ensures { λ r. ⌜ Puts (each numberOf (now (list .entry))) (now (out .entry)) at (now (out .exit)) r ⌝ }
+    ensures { λ r. ⌜ Puts (each spacedNumber (now (list .entry))) (now (out .entry)) at (now (out .exit)) r ⌝ }
 {
     let mut end = at;
     for i in 0..list.len() {
@@ -136,7 +136,7 @@ pub fn halves(out: &mut [u8], at: usize, list: &[u32]) -> usize
 }
 
 fn half(out: &mut [u8], at: usize, n: u32) -> usize
-    ensures { λ r. ⌜ Puts (numberOf n) (now (out .entry)) at (now (out .exit)) r ⌝ }
+    ensures { λ r. ⌜ Puts (spacedNumber n) (now (out .entry)) at (now (out .exit)) r ⌝ }
 {
     number(out, at, n as u64)
 }

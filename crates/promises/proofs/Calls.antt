@@ -12,23 +12,27 @@ use Rattle.tokens.specs.Instance.{tableAt, valuesAt}
 use Rattle.tokens.specs.Single.{singleOf, endsOf}
 use Rattle.tokens.specs.Token.{smallAt, textsAt, namesAt, otherAt}
 use Rattle.tokens.specs.Walk.{turnAt, stepFrom, walkFrom, walkOf}
+use Rattle.print.specs.Text.{put, each, decimalIn}
 use Rattle.promises.specs.Calls.{Calls}
 
 pub calls : Calls
-unfolding little startsWith arrayAt unitsOf beforeZero hashFrom among knownCode widthOf bitsOf realOf unsignedOf decodedOf sizedAt unsizedAt fieldsAt offsetsAt plainAt strictAt payloadOf tableAt valuesAt singleOf endsOf smallAt textsAt namesAt otherAt turnAt stepFrom walkFrom walkOf
+unfolding little startsWith arrayAt unitsOf beforeZero hashFrom among knownCode widthOf bitsOf realOf unsignedOf decodedOf sizedAt unsizedAt fieldsAt offsetsAt plainAt strictAt payloadOf tableAt valuesAt singleOf endsOf smallAt textsAt namesAt otherAt turnAt stepFrom walkFrom walkOf put each decimalIn
 calls =
     record {
       read = refl;
       number = refl;
       moved = refl;
       taken = refl;
+      part-start = refl;
       part-of = refl;
       counted = refl;
       prefixed = refl;
       zero-ended = refl;
       sid = refl;
       array = refl;
+      all-bytes = refl;
       begins = refl;
+      second-unit = refl;
       unit = refl;
       hash = refl;
       known = refl;
@@ -37,8 +41,10 @@ calls =
       decode = refl;
       tokens = refl;
       values = refl;
+      first-value = refl;
       next = refl;
       single = refl;
+      goes-on = refl;
       ends = refl;
       fields = refl;
       strings = refl;
@@ -51,4 +57,14 @@ calls =
       counts = refl;
       refuses = refl;
       said = refl;
+      text = refl;
+      decimal = refl;
+      zero = refl;
+      spaced = refl;
+      half = refl;
+      words = refl;
+      bytes = refl;
+      no-bytes = refl;
+      line = refl;
+      refusal = refl;
     }

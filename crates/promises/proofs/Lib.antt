@@ -10,6 +10,7 @@ pub mod OfTokens
 pub mod OfSheet
 pub mod OfBody
 pub mod OfDoortumble
+pub mod OfPrint
 pub mod Resume
 pub mod Samples
 pub mod Calls

@@ -15,6 +15,8 @@ use Rattle.name.specs.Hash.{hashOf}
 use Rattle.value.specs.Kinds.{knownCode, widthOf, elementWidthOf}
 use Rattle.value.specs.Scalar.{decodedOf, decoded}
 use Rattle.value.specs.declared.Scalar.the-variants.{Unsigned}
+use Rattle.value.specs.Value.{valueOf}
+use Rattle.value.specs.declared.Content.the-variants.{Number}
 use Rattle.record.specs.Answers.{refusalOf}
 use Rattle.record.specs.Chunk.{fieldsAt, stringsOf, checksumAt}
 use Rattle.record.specs.Record.{recordAt, payloadOf}
@@ -32,7 +34,8 @@ use Rattle.tokens.specs.declared.Single.the-variants as S
 use Rattle.tokens.specs.declared.Values.{Values}
 use Rattle.doortumble.specs.Calls.{packedOf}
 use Rattle.checksum_call.specs.Said.{saidOf}
-use Rattle.promises.specs.Samples.{emptyElement, whole, walkOn}
+use Rattle.print.specs.Text.{ascii, page, put, each, decimalOf, spacedNumber, hexHalf, spacedWord, hexOf, lineOf, refusedOf}
+use Rattle.promises.specs.Samples.{emptyElement, anInstance, whole, walkOn}
 
 abbrev part : ℕ → ℕ → Part
 part start len = record { start = start; len = len }
@@ -52,7 +55,8 @@ pub record Calls : Type 0 where
   pub moved : setTo three 3 ≡ given tt 3
   -- `take_bytes`: 3, where the read starts
   pub taken : takeAt three 1 3 ≡ refused 3 1
-  -- `Part::of`: nothing of a part that does not lie within
+  -- `Part::of`: the bytes from where it starts; nothing of a part that does not lie within
+  pub part-start : partOf three (part 1 2) ≡ 2 ∷ 3 ∷ []
   pub part-of : partOf three (part 2 2) ≡ []
   -- `utf16_by_char_count`: a view without its zero unit, the position after all units
   pub counted : countedAt (0x41 ∷ 0 ∷ 0 ∷ 0 ∷ []) 0 2 ≡ given (view 0 2) 4
@@ -64,9 +68,11 @@ pub record Calls : Type 0 where
   pub sid : sidAt (1 ∷ 1 ∷ replicate 10 0) 0 ≡ given (part 0 12) 12
   -- `read_array`: the size is looked at before the bytes
   pub array : arrayAt [] 0 4 6 ≡ refused 10 0
-  -- `begins`: a slice that is too short does not begin with a magic
+  -- `begins`: every byte counts; a slice that is too short does not begin with a magic
+  pub all-bytes : startsWith (0x2A ∷ 0x2B ∷ []) (0x2A ∷ 0x2A ∷ []) ≡ false
   pub begins : startsWith (0x2A ∷ []) (0x2A ∷ 0x2A ∷ []) ≡ false
-  -- `unit_at`: an odd byte at the end is no unit
+  -- `unit_at`: unit n stands at byte 2n; an odd byte at the end is no unit
+  pub second-unit : getD (unitsOf (1 ∷ 2 ∷ 3 ∷ 4 ∷ [])) 1 0 ≡ 0x0403
   pub unit : getD (unitsOf three) 1 0 ≡ 0
   -- `name_hash`: the low 16 bits
   pub hash : hashOf (0xFFFF ∷ 0xFFFF ∷ []) ≡ 0xFFC0
@@ -80,11 +86,15 @@ pub record Calls : Type 0 where
   pub tokens : countedOf (walkOn (whole emptyElement)) ≡ C.Count 2
   -- `Values::of`: the values begin where the instance says, not at their descriptors
   pub values : valuesOf (record { id = 0; offset = 0; guid = part 0 0; table = 14; count = 1; values = 18 }) .at ≡ 18
-  -- `Values::next`: where none is left, done, whatever the stream holds
+  -- `Values::next`: a value, and the next descriptor four bytes on; where none is left, done, whatever the stream holds
+  pub first-value :
+      nextOf (anInstance 2 0x08 (0x2A ∷ 0 ∷ 0 ∷ 0 ∷ [])) (record { table = 14; left = 1; at = 18 })
+      ≡ N.Value (valueOf 0x08 18 (Number (part 18 4))) 2 (record { table = 18; left = 0; at = 22 })
   pub next : nextOf [] (record { table = 14; left = 0; at = 18 }) ≡ N.Done
   -- `single_instance_offset`: a header and 0C with a byte after it
   pub single : singleOf (0x0F ∷ 1 ∷ 1 ∷ 0 ∷ 0x0C ∷ 1 ∷ []) ≡ S.At 5
-  -- `ends_stream`: what was consumed reaches past the end
+  -- `ends_stream`: a byte that is not 0 follows; what was consumed reaches past the end
+  pub goes-on : endsOf three 1 ≡ E.No
   pub ends : endsOf three 4 ≡ E.Beyond
   -- `read_fields`, `read_header`: the length first
   pub fields : fieldsAt three ≡ refused 1 0
@@ -105,3 +115,18 @@ pub record Calls : Type 0 where
   pub refuses : packedOf (C.Refused (refusalOf 9 1)) ≡ 0x8900000000000001
   -- `doortumble_bench_checksum`
   pub said : saidOf (refused 1 0) ≡ 2
+  -- `byte`, `text`: behind what is there, as far as there is room
+  pub text : put (ascii "abc") (page (ascii "x..") 1) ≡ page (ascii "xab") 3
+  -- `decimal`, `number`, `numbers`, `halves`
+  pub decimal : decimalOf 100 ≡ ascii "100"
+  pub zero : decimalOf 0 ≡ ascii "0"
+  pub spaced : each spacedNumber (7 ∷ 0 ∷ []) ≡ ascii " 7 0"
+  -- `hex_byte`, `hex_half`, `hex_word`, `hex_halves`, `hex_words`
+  pub half : hexHalf 0x1A2B ≡ ascii "00001a2b"
+  pub words : each spacedWord (1 ∷ []) ≡ ascii " 0000000000000001"
+  -- `hex`
+  pub bytes : hexOf (0x0A ∷ 0xFF ∷ []) ≡ ascii "0aff"
+  pub no-bytes : hexOf [] ≡ ascii "-"
+  -- `line`, `refused`
+  pub line : lineOf (ascii "live") (512 ∷ []) ≡ ascii "live 512\n"
+  pub refusal : refusedOf (refusalOf 4 0) ≡ ascii "refused 4 0\n"
