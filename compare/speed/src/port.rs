@@ -54,39 +54,42 @@ pub fn checksum(chunk: &[u8]) -> Call<'_> {
     Box::new(move |_| unsafe { doortumble_bench_checksum(chunk.as_ptr(), chunk.len()).into() })
 }
 
+/// A call on a stream, with words that it is lent.
+type OnStream<W> = unsafe extern "C" fn(*const u8, usize, u32, u32, u32, u32, *mut W, usize) -> u64;
+
+#[inline(always)]
+fn called<W>(call: OnStream<W>, stream: &[u8], asked: Asked, words: *mut W, count: usize) -> u64 {
+    // SAFETY: bytes and words are good for their lengths.
+    unsafe {
+        call(
+            stream.as_ptr(),
+            stream.len(),
+            asked.start as u32,
+            asked.length as u32,
+            u32::from(asked.dependencies),
+            u32::from(asked.inline_names),
+            words,
+            count,
+        )
+    }
+}
+
 pub fn sheet(stream: &[u8], asked: Asked) -> Call<'_> {
     Box::new(move |sheet| {
-        // SAFETY: bytes and words are good for their lengths.
-        unsafe {
-            doortumble_sheet(
-                stream.as_ptr(),
-                stream.len(),
-                asked.start as u32,
-                asked.length as u32,
-                u32::from(asked.dependencies),
-                u32::from(asked.inline_names),
-                sheet.as_mut_ptr(),
-                sheet.len(),
-            )
-        }
+        called(
+            doortumble_sheet,
+            stream,
+            asked,
+            sheet.as_mut_ptr(),
+            sheet.len(),
+        )
     })
 }
 
 /// The table has two words of 32 bits in each of the lent ones.
 pub fn owners(stream: &[u8], asked: Asked) -> Call<'_> {
     Box::new(move |table| {
-        // SAFETY: bytes and words are good for their lengths.
-        unsafe {
-            doortumble_owners(
-                stream.as_ptr(),
-                stream.len(),
-                asked.start as u32,
-                asked.length as u32,
-                u32::from(asked.dependencies),
-                u32::from(asked.inline_names),
-                table.as_mut_ptr().cast(),
-                table.len() * 2,
-            )
-        }
+        let words = table.as_mut_ptr().cast();
+        called(doortumble_owners, stream, asked, words, table.len() * 2)
     })
 }

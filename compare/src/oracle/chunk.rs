@@ -205,16 +205,28 @@ impl<'a> Walk<'a> {
     }
 }
 
-/// Mode H.
-pub fn answer_header(chunk: &[u8], out: &mut String) -> Met {
-    let mut met = Met::new();
-    let header = match header(chunk) {
-        Ok(header) => header,
+/// What is said of a chunk's header, or its refusal.
+fn on_header(
+    chunk: &[u8],
+    out: &mut String,
+    say: impl FnOnce(EvtxChunkHeader, &mut String) -> Met,
+) -> Met {
+    match header(chunk) {
+        Ok(header) => say(header, out),
         Err(refusal) => {
             out.push_str(&refused(refusal));
-            return met;
+            Met::new()
         }
-    };
+    }
+}
+
+/// Mode H.
+pub fn answer_header(chunk: &[u8], out: &mut String) -> Met {
+    on_header(chunk, out, |header, out| say_header(chunk, header, out))
+}
+
+fn say_header(chunk: &[u8], header: EvtxChunkHeader, out: &mut String) -> Met {
+    let mut met = Met::new();
     let fields = [
         header.first_event_record_number,
         header.last_event_record_number,
@@ -283,15 +295,14 @@ pub fn answer_record(chunk: &[u8], offset: u64, strict: bool, out: &mut String) 
 
 /// Mode W.
 pub fn answer_walk(chunk: &[u8], recovery: bool, out: &mut String) -> Met {
+    on_header(chunk, out, |header, out| {
+        say_walk(chunk, &header, recovery, out)
+    })
+}
+
+fn say_walk(chunk: &[u8], header: &EvtxChunkHeader, recovery: bool, out: &mut String) -> Met {
     let mut met = Met::new();
-    let header = match header(chunk) {
-        Ok(header) => header,
-        Err(refusal) => {
-            out.push_str(&refused(refusal));
-            return met;
-        }
-    };
-    let walk = Walk::new(chunk, &header, recovery);
+    let walk = Walk::new(chunk, header, recovery);
     let mut state = walk.start();
     loop {
         let (answer, after) = walk.step(state, &mut met);
