@@ -1,8 +1,7 @@
 -- What fits in an answer word: a position within the stream, or a refusal with a number below 2^7 and a place below 2^40. The laws of reads.
 -- Assumes nothing.
-use mathlib.Core.Path.{_≡_}
 use mathlib.Core.List.{List, [], _∷_}
-use Prim.Native.Nat.{ℕ, zero, suc, _+_, _*_, _^_, _≤_, _<_}
+use Prim.Native.Nat.{ℕ, zero, suc, _+_, _^_, _≤_, _<_}
 use native.Mathlib.Nat.{pow-succ'}
 use native.Mathlib.Omega.{arith}
 use borrow.Author.Tests.{leb-true}
@@ -22,41 +21,40 @@ Fits high (given a next) = next ≤ high
 Fits high (refused k p) = Small k p
 
 -- what was read, and then what comes after it
-pub on : {A B : Type 0} (high : ℕ) (a : Answer A) (f : A → ℕ → Answer B) → Fits high a → ((x : A) (n : ℕ) → n ≤ high → Fits high (f x n))
-    → Fits high (a then f)
+pub on : {A B : Type 0} (high : ℕ) (a : Answer A) (f : A → ℕ → Answer B) → Fits high a
+    → ((x : A) (n : ℕ) → n ≤ high → Fits high (f x n)) → Fits high (a then f)
 on high (given x n) f h g = g x n h
 on high (refused k p) f h g = h
 
 -- a number of w bytes, whether or not they are all there
 dropped : (s : List ℕ) (n : ℕ) → Bytes s → Bytes (drop n s)
-unfolding Bytes
 dropped s zero h = h
 dropped [] (suc n) h = h
-dropped (b ∷ s) (suc n) h = dropped s n (h .1)
+dropped (b ∷ s) (suc n) h = dropped s n (λ i. h (suc i))
 
 little-below : (s : List ℕ) (w : ℕ) → Bytes s → little (take w s) < 256 ^ w
-unfolding Bytes little
+unfolding little
 little-below s zero h = omega arith
 little-below [] (suc w) h = rw pow-succ' (omega (arith, little-below [] w h))
-little-below (b ∷ s) (suc w) h = rw pow-succ' (omega (arith, h .0, little-below s w (h .1)))
+little-below (b ∷ s) (suc w) h = rw pow-succ' (omega (arith, h 0, little-below s w (λ i. h (suc i))))
 
 pub number-below : (s : List ℕ) (at w : ℕ) → Bytes s → numberOf s at w < 256 ^ w
 number-below s at w h = little-below (drop at s) w (dropped s at h)
 
--- a stream of bytes, no longer than a chunk
-module _ (s : List ℕ) (bytes : Bytes s) (short : length s ≤ 65536) where
+-- a stream no longer than a chunk
+module _ (s : List ℕ) (short : length s ≤ 65536) where
   pub read-fits : {A : Type 0} (at n : ℕ) (a : A) → at ≤ length s → Fits (length s) (readOf s at n a)
   read-fits at n a h =
       either (Fits (length s)) (within s at n) _ _ (λ w. leb-true (at + n) (length s) w) (λ w. (omega arith, omega arith))
 
-  -- a number, and then what comes after it: the number is as large as its bytes allow
-  pub number-then : {B : Type 0} (at w : ℕ) (f : ℕ → ℕ → Answer B) → at ≤ length s
+  -- a position is set, and may be past the end
+  pub set-fits : (to : ℕ) → to < 2 ^ 40 → Fits (length s) (setTo s to)
+  set-fits to h = either (Fits (length s)) (leb to (length s)) _ _ (λ w. leb-true to (length s) w) (λ w. (omega arith, h))
+
+  -- of bytes: a number, and then what comes after it; the number is as large as its bytes allow
+  pub number-then : Bytes s → {B : Type 0} (at w : ℕ) (f : ℕ → ℕ → Answer B) → at ≤ length s
       → ((x : ℕ) (n : ℕ) → x < 256 ^ w → n ≤ length s → Fits (length s) (f x n)) → Fits (length s) (numberAt s at w then f)
-  number-then at w f h g =
+  number-then bytes at w f h g =
       either (λ a. Fits (length s) (a then f)) (within s at w) _ _
       (λ v. g (numberOf s at w) (at + w) (number-below s at w bytes) (leb-true (at + w) (length s) v))
       (λ v. (omega arith, omega arith))
-
-  -- a position is set, at most a number of four bytes past a place in the stream
-  pub set-fits : (to : ℕ) → to < 2 ^ 40 → Fits (length s) (setTo s to)
-  set-fits to h = either (Fits (length s)) (leb to (length s)) _ _ (λ w. leb-true to (length s) w) (λ w. (omega arith, h))

@@ -1,5 +1,4 @@
 -- Names and values: what their definitions answer fits in an answer word. Assumes nothing.
-use mathlib.Core.Path.{_≡_, refl, subst}
 use mathlib.Core.Bool.{Bool, false, _||_}
 use mathlib.Core.List.{List}
 use Prim.Native.Nat.{ℕ, zero, suc, _+_, _*_, _/_, _%_, _^_, _≤_, _<_}
@@ -7,19 +6,18 @@ use native.Mathlib.Omega.{arith}
 use borrow.Author.Tests.{leb-true}
 use lib.Dec.{eqb, leb, ltb}
 use lib.ListN.{length, drop, length-drop}
-use Rattle.cursor.specs.Answer.{Answer, given, refused, _then_}
-use Rattle.cursor.specs.Reads.{within, numberOf, numberAt, setTo, takeAt}
+use Rattle.cursor.specs.Answer.{Answer}
+use Rattle.cursor.specs.Reads.{numberOf, setTo, takeAt}
 use Rattle.cursor.specs.Refusals.{unknownType, typeNotRead}
-use Rattle.cursor.specs.Text.{countedAt, prefixedAt}
+use Rattle.cursor.specs.Text.{prefixedAt}
 use Rattle.cursor.proofs.Choice.{either}
 use Rattle.name.specs.Hash.{hashOf}
 use Rattle.name.specs.Name as N
 use Rattle.value.specs.Kinds.{knownCode, widthOf, elementWidthOf}
-use Rattle.value.specs.Value.{valued, passed, readIn, bytesIn, sidIn, tellsLength, toldIn, takesSize, notRead, sizedBytesIn, sizedIn, sizedAt, textAt, afterType, unsizedAt}
+use Rattle.value.specs.Value.{valued, readIn, sidIn, tellsLength, toldIn, takesSize, notRead, sizedBytesIn, sizedIn, sizedAt, textAt, afterType, unsizedAt}
 use Rattle.value.specs.declared.Content.{Content}
-use Rattle.value.specs.declared.Value.{Value}
 use Rattle.promises.specs.Packed.{Bytes}
-use Rattle.promises.proofs.Fits.{Small, Fits, on, number-below, read-fits, number-then, set-fits}
+use Rattle.promises.proofs.Fits.{Small, Fits, on, read-fits, number-then, set-fits}
 
 -- a part t from `start` on, within the stream
 module _ (t : List ℕ) (start high : ℕ) (inside : start + length t ≤ high) (short : high ≤ 65536) where
@@ -36,7 +34,8 @@ module _ (t : List ℕ) (start high : ℕ) (inside : start + length t ≤ high) 
       (λ w. either (Fits high) (eqb code 0x13) _ _ (λ e. in-sid) (λ e. omega arith))
 
   not-read : (code : ℕ) → Small (notRead code) start
-  not-read code = either (λ k. Small k start) (knownCode code) typeNotRead unknownType (λ e. (omega arith, omega arith)) (λ e. (omega arith, omega arith))
+  not-read code =
+      either (λ k. Small k start) (knownCode code) typeNotRead unknownType (λ e. (omega arith, omega arith)) (λ e. (omega arith, omega arith))
 
   in-bytes : (code size : ℕ) → Fits high (sizedBytesIn t start code size)
   in-bytes code size =
@@ -75,8 +74,8 @@ module _ (s : List ℕ) (bytes : Bytes s) (short : length s ≤ 65536) where
   -- a text
   pub text-fits : (at : ℕ) → at ≤ length s → Fits (length s) (prefixedAt s at false)
   text-fits at h =
-      number-then s bytes short at 2 _ h (λ n m b k.
-      on (length s) (takeAt s m (2 * n)) _ (read-fits s bytes short m (2 * n) (record { start = m; len = 2 * n }) k) (λ p e l. l))
+      number-then s short bytes at 2 _ h (λ n m b k.
+      on (length s) (takeAt s m (2 * n)) _ (read-fits s short m (2 * n) (record { start = m; len = 2 * n }) k) (λ p e l. l))
 
   -- a value with a size, from the middle of the stream
   pub middle-fits : (at code size : ℕ) → at ≤ length s → size < 2 ^ 32 → Fits (length s) (sizedAt (drop at s) at code size)
@@ -86,7 +85,7 @@ module _ (s : List ℕ) (bytes : Bytes s) (short : length s ≤ 65536) where
   pub unsized-fits : (at : ℕ) → at ≤ length s → Fits (length s) (unsizedAt s at)
   unfolding unsizedAt
   unsized-fits at h =
-      number-then s bytes short at 1 (afterType s) h (λ code n b k.
+      number-then s short bytes at 1 (afterType s) h (λ code n b k.
       let t = drop n s in
       either (Fits (length s)) (tellsLength code) _ _
       (λ w. value-fits t n (length s) (rest n k) short code (toldIn t n code) (in-told t n (length s) (rest n k) short code))
@@ -98,27 +97,27 @@ module _ (s : List ℕ) (bytes : Bytes s) (short : length s ≤ 65536) where
   in-place : (at : ℕ) → at ≤ length s → Fits (length s) (N.inPlaceAt s at)
   in-place at h =
       on (length s) (N.linkAt s at) (λ _ link. N.afterLink s at link)
-      (number-then s bytes short at 4 _ h (λ x n b k. number-then s bytes short n 2 _ k (λ y m c l. l)))
+      (number-then s short bytes at 4 _ h (λ x n b k. number-then s short bytes n 2 _ k (λ y m c l. l)))
       (λ x link k.
-      number-then s bytes short link 2 (N.skipped s at) k (λ n units b l.
-      on (length s) (setTo s (at + 10 + 2 * n)) _ (set-fits s bytes short (at + 10 + 2 * n) (omega arith)) (λ y e i. i)))
+      number-then s short bytes link 2 (N.skipped s at) k (λ n units b l.
+      on (length s) (setTo s (at + 10 + 2 * n)) _ (set-fits s short (at + 10 + 2 * n) (omega arith)) (λ y e i. i)))
 
   offset-name : (at : ℕ) → at ≤ length s → Fits (length s) (N.offsetNameAt s at)
   offset-name at h =
-      number-then s bytes short at 4 (N.afterOffset s) h (λ offset n b k.
+      number-then s short bytes at 4 (N.afterOffset s) h (λ offset n b k.
       either (Fits (length s)) (eqb n offset) _ _ (λ e. in-place n k) (λ e. k))
 
   units : (n at : ℕ) → at ≤ length s → Fits (length s) (N.unitsAt s at n)
   unfolding N.unitsAt
   units zero at h = h
-  units (suc n) at h = number-then s bytes short at 2 _ h (λ u m b k. on (length s) (N.unitsAt s m n) _ (units n m k) (λ us e l. l))
+  units (suc n) at h = number-then s short bytes at 2 _ h (λ u m b k. on (length s) (N.unitsAt s m n) _ (units n m k) (λ us e l. l))
 
   inline-name : (at : ℕ) → at ≤ length s → Fits (length s) (N.inlineNameAt s at)
   inline-name at h =
-      number-then s bytes short at 2 (N.afterHash s at) h (λ stored n b k.
-      number-then s bytes short n 2 (N.afterCount s at stored) k (λ count m c l.
+      number-then s short bytes at 2 (N.afterHash s at) h (λ stored n b k.
+      number-then s short bytes n 2 (N.afterCount s at stored) k (λ count m c l.
       on (length s) (N.unitsAt s m count) (N.afterUnits s (record { offset = at; units = m; count = count }) stored) (units count m l) (λ us e i.
-      number-then s bytes short e 2 _ i (λ last z d j.
+      number-then s short bytes e 2 _ i (λ last z d j.
       either (Fits (length s)) (eqb last 0) _ _
       (λ p. either (Fits (length s)) (eqb stored (hashOf us)) _ _ (λ q. j) (λ q. (omega arith, omega arith)))
       (λ p. (omega arith, omega arith))))))

@@ -18,3 +18,4 @@ pub mod Fits
 pub mod FitsValue
 pub mod FitsWalk
 pub mod Packed
+pub mod PackedCalls
