@@ -1,5 +1,5 @@
--- What fits in an answer word: a position within the stream, or a refusal with a number below 2^7 and a place below 2^40. The laws of reads.
--- Assumes nothing.
+-- What fits in an answer word: a position within the stream, or a refusal with a number below 2^7 and a place below 2^33,
+-- since no position is set more than a number of four bytes past one in the stream. The laws of reads. Assumes nothing.
 use mathlib.Core.List.{List, [], _∷_}
 use Prim.Native.Nat.{ℕ, zero, suc, _+_, _^_, _≤_, _<_}
 use native.Mathlib.Nat.{pow-succ'}
@@ -14,7 +14,7 @@ use Rattle.promises.specs.Packed.{Bytes}
 
 -- a refusal's number and place
 abbrev pub Small : ℕ → ℕ → Type 0
-Small k p = (k < 2 ^ 7) × (p < 2 ^ 40)
+Small k p = (k < 2 ^ 7) × (p < 2 ^ 33)
 
 abbrev pub Fits : {A : Type 0} → ℕ → Answer A → Type 0
 Fits high (given a next) = next ≤ high
@@ -48,7 +48,7 @@ module _ (s : List ℕ) (short : length s ≤ 65536) where
       either (Fits (length s)) (within s at n) _ _ (λ w. leb-true (at + n) (length s) w) (λ w. (omega arith, omega arith))
 
   -- a position is set, and may be past the end
-  pub set-fits : (to : ℕ) → to < 2 ^ 40 → Fits (length s) (setTo s to)
+  pub set-fits : (to : ℕ) → to < 2 ^ 33 → Fits (length s) (setTo s to)
   set-fits to h = either (Fits (length s)) (leb to (length s)) _ _ (λ w. leb-true to (length s) w) (λ w. (omega arith, h))
 
   -- of bytes: a number, and then what comes after it; the number is as large as its bytes allow

@@ -34,7 +34,7 @@ use Rattle.promises.proofs.FitsWalk.{WalkFits, walk-fits}
 -- an answer whose fields fit in their bits
 abbrev pub InBits : Counted → Type 0
 InBits (C.Count n) = n < 2 ^ 40
-InBits (C.Refused r) = Small (r .number) (r .place)
+InBits (C.Refused r) = (r .number < 2 ^ 7) × (r .place < 2 ^ 40)
 
 abbrev Kept : Counted → Type 0
 Kept c = unpackedOf (packedOf c) ≡ c
@@ -51,10 +51,14 @@ answer-kept (C.Refused r) h =
     let p : word % 2 ^ 40 ≡ r .place = omega (arith, h .0, h .1) in
     rw z (λ i. C.Refused (record { number = k i; place = p i }))
 
+-- a refusal as the reads give it
+small-bits : (k p : ℕ) → Small k p → InBits (C.Refused (record { number = k; place = p }))
+small-bits k p h = (h .0, omega (arith, h .1))
+
 -- the sheet: the walk's own refusal, or a number of tokens
 sheet-bits : (w : Walked) (lent : List ℕ) → WalkFits 65536 w → InBits (sheetAnswer w lent)
 sheet-bits (ok l) lent h = either InBits (leb (wordsPerToken * length l) (length lent)) _ _ (λ e. omega arith) (λ e. (omega arith, omega arith))
-sheet-bits (bad k p) lent h = h
+sheet-bits (bad k p) lent h = small-bits k p h
 
 -- the owner table: a refusal by the grammar has a token's number for its place, or the number of tokens
 grammar-small : (kinds : List ℕ) {k p : ℕ} → Refuses kinds k p → length kinds ≤ 65536 → Small k p
@@ -66,8 +70,8 @@ kinds-short : (l : List Token) → length l ≤ 65536 → length (kindsOf l) ≤
 kinds-short l h = omega (arith, length-map l (λ (t : Token). t .kind))
 
 owners-bits : (lent left : List ℕ) {w : Walked} {c : Counted} → Answered lent left w c → WalkFits 65536 w → InBits c
-owners-bits lent left (unread k p e) h = h
-owners-bits lent left (refused l k p x e) h = grammar-small (kindsOf l) x (kinds-short l h)
+owners-bits lent left (unread k p e) h = small-bits k p h
+owners-bits lent left (refused l k p x e) h = small-bits k p (grammar-small (kindsOf l) x (kinds-short l h))
 owners-bits lent left (no-room l words x g e) h = (omega arith, omega arith)
 owners-bits lent left (a-body l words x g e) h = omega arith
 
@@ -91,7 +95,7 @@ list-bits : (s : List ℕ) (recovery : Bool) (lent left : List ℕ) (c : Counted
 list-bits s recovery lent left c (given h n) e f (items, (r, x)) =
     let few = most-answers s h n e recovery items r in
     chosen-bits (leb (length (rowsOf items)) (length lent)) _ _ c _ _ (omega arith) (omega arith, omega (arith, rows-length items)) x
-list-bits s recovery lent left c (refused k p) e f (x, y) = subst InBits (sym x) f
+list-bits s recovery lent left c (refused k p) e f (x, y) = subst InBits (sym x) (small-bits k p f)
 
 -- A stream of bytes, from a start of 32 bits: every answer of the walk, whatever the length and the flags say.
 module _ (s : List ℕ) (bytes : Bytes s) (start len : ℕ) (u32 : start < 2 ^ 32) (f : Flags) where
