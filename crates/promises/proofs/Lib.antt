@@ -14,3 +14,8 @@ pub mod OfPrint
 pub mod Resume
 pub mod Samples
 pub mod Calls
+pub mod Fits
+pub mod FitsValue
+pub mod FitsWalk
+pub mod Packed
+pub mod PackedCalls

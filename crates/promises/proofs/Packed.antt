@@ -1,0 +1,131 @@
+-- The answer word of a C call loses nothing: what a caller takes from it is the answer itself. Assumes nothing.
+use mathlib.Core.Path.{_≡_, refl, sym, ap, subst, _∙_}
+use mathlib.Core.Bool.{Bool, true, false}
+use mathlib.Core.List.{List, []}
+use Prim.Native.Nat.{ℕ, _+_, _*_, _/_, _%_, _^_, _≤_, _<_}
+use native.Mathlib.Omega.{arith}
+use lib.Dec.{eqb, leb}
+use lib.ListN.{length, length-map}
+use Rattle.cursor.specs.Answer.{Answer, given, refused}
+use Rattle.cursor.specs.Reads.{little, startsWith}
+use Rattle.cursor.specs.Refusals.{wrongLength, wrongMagic}
+use Rattle.cursor.specs.declared.Counted.{Counted}
+use Rattle.cursor.specs.declared.Counted.the-variants as C
+use Rattle.cursor.proofs.Choice.{either}
+use Rattle.record.specs.Must.{must}
+use Rattle.record.specs.Chunk.{fieldsAt, chunkSize, chunkMagic}
+use Rattle.record.specs.declared.Fields.{Fields}
+use Rattle.tokens.specs.Instance.{tableAt, valuesAt}
+use Rattle.tokens.specs.Token.{otherAt}
+use Rattle.tokens.specs.Walk.{Walked, ok, bad, turnAt, stepFrom, walkFrom, walkOf}
+use Rattle.tokens.specs.declared.Flags.{Flags}
+use Rattle.tokens.specs.declared.Token.{Token}
+use Rattle.sheet.specs.Sheet.{wordsPerToken, sheetAnswer, kindsOf}
+use Rattle.body.specs.Verdict.{Refuses, no-body, too-deep, unfinished-body, Answered, unread, refused, no-room, a-body}
+use Rattle.chunk.specs.Walk.{Choose, startOf}
+use Rattle.chunk.specs.Listing.{rowsOf, listsOn, Lists}
+use Rattle.chunk.proofs.Laying.{rows-length}
+use Rattle.chunk.proofs.Whole.{most-answers}
+use Rattle.doortumble.specs.Calls.{flagsOf, packedOf, OwnersPacked, ListPacked}
+use Rattle.promises.specs.Packed.{unpackedOf, Bytes, farStream}
+use Rattle.promises.proofs.Fits.{Small, Fits, on}
+use Rattle.promises.proofs.FitsWalk.{WalkFits, walk-fits}
+
+-- an answer whose fields fit in their bits
+abbrev pub InBits : Counted → Type 0
+InBits (C.Count n) = n < 2 ^ 40
+InBits (C.Refused r) = (r .number < 2 ^ 7) × (r .place < 2 ^ 40)
+
+abbrev Kept : Counted → Type 0
+Kept c = unpackedOf (packedOf c) ≡ c
+
+pub answer-kept : (c : Counted) → InBits c → Kept c
+answer-kept (C.Count n) h =
+    let e : n % 2 ^ 40 % 2 ^ 40 ≡ n = omega arith in
+    let z : n % 2 ^ 40 / 2 ^ 63 ≡ 0 = omega arith in
+    rw z (ap C.Count e)
+answer-kept (C.Refused r) h =
+    let word = packedOf (C.Refused r) in
+    let z : word / 2 ^ 63 ≡ 1 = omega (arith, h .0, h .1) in
+    let k : word / 2 ^ 56 % 2 ^ 7 ≡ r .number = omega (arith, h .0, h .1) in
+    let p : word % 2 ^ 40 ≡ r .place = omega (arith, h .0, h .1) in
+    rw z (λ i. C.Refused (record { number = k i; place = p i }))
+
+-- a refusal as the reads give it
+small-bits : (k p : ℕ) → Small k p → InBits (C.Refused (record { number = k; place = p }))
+small-bits k p h = (h .0, omega (arith, h .1))
+
+-- the sheet: the walk's own refusal, or a number of tokens
+sheet-bits : (w : Walked) (lent : List ℕ) → WalkFits 65536 w → InBits (sheetAnswer w lent)
+sheet-bits (ok l) lent h = either InBits (leb (wordsPerToken * length l) (length lent)) _ _ (λ e. omega arith) (λ e. (omega arith, omega arith))
+sheet-bits (bad k p) lent h = small-bits k p h
+
+-- the owner table: a refusal by the grammar has a token's number for its place, or the number of tokens
+grammar-small : (kinds : List ℕ) {k p : ℕ} → Refuses kinds k p → length kinds ≤ 65536 → Small k p
+grammar-small kinds (no-body i x) h = (omega arith, omega (arith, x .there))
+grammar-small kinds (too-deep i x) h = (omega arith, omega (arith, x .there))
+grammar-small kinds (unfinished-body x) h = (omega arith, omega arith)
+
+kinds-short : (l : List Token) → length l ≤ 65536 → length (kindsOf l) ≤ 65536
+kinds-short l h = omega (arith, length-map l (λ (t : Token). t .kind))
+
+owners-bits : (lent left : List ℕ) {w : Walked} {c : Counted} → Answered lent left w c → WalkFits 65536 w → InBits c
+owners-bits lent left (unread k p e) h = small-bits k p h
+owners-bits lent left (refused l k p x e) h = small-bits k p (grammar-small (kindsOf l) x (kinds-short l h))
+owners-bits lent left (no-room l words x g e) h = (omega arith, omega arith)
+owners-bits lent left (a-body l words x g e) h = omega arith
+
+-- the listing: a chunk is refused at 0; and there are at most 4,645 answers of five words each
+must-fits : (b : Bool) (k : ℕ) → k < 2 ^ 7 → Fits 65536 (must b k 0)
+must-fits true k h = omega arith
+must-fits false k h = (h, omega arith)
+
+fields-fit : (s : List ℕ) → Fits 65536 (fieldsAt s)
+unfolding fieldsAt
+fields-fit s =
+    on 65536 (must (eqb (length s) chunkSize) wrongLength 0) _ (must-fits (eqb (length s) chunkSize) wrongLength (omega arith)) (λ x n h.
+    on 65536 (must (startsWith s chunkMagic) wrongMagic 0) _ (must-fits (startsWith s chunkMagic) wrongMagic (omega arith)) (λ y m k. omega arith))
+
+chosen-bits : (b : Bool) (x y c : Counted) (A B : Type 0) → InBits x → InBits y → Choose b ((c ≡ x) × A) ((c ≡ y) × B) → InBits c
+chosen-bits true x y c A B h k (e, z) = subst InBits (sym e) h
+chosen-bits false x y c A B h k (e, z) = subst InBits (sym e) k
+
+list-bits : (s : List ℕ) (recovery : Bool) (lent left : List ℕ) (c : Counted) (a : Answer Fields) → fieldsAt s ≡ a → Fits 65536 a
+    → listsOn s (startOf recovery) lent left c a → InBits c
+list-bits s recovery lent left c (given h n) e f (items, (r, x)) =
+    let few = most-answers s h n e recovery items r in
+    chosen-bits (leb (length (rowsOf items)) (length lent)) _ _ c _ _ (omega arith) (omega arith, omega (arith, rows-length items)) x
+list-bits s recovery lent left c (refused k p) e f (x, y) = subst InBits (sym x) (small-bits k p f)
+
+-- A stream of bytes, from a start of 32 bits: every answer of the walk, whatever the length and the flags say.
+module _ (s : List ℕ) (bytes : Bytes s) (start len : ℕ) (u32 : start < 2 ^ 32) (f : Flags) where
+  -- the sheet's answer comes back
+  pub sheet-kept : (lent : List ℕ) → unpackedOf (packedOf (sheetAnswer (walkOf s start len f) lent)) ≡ sheetAnswer (walkOf s start len f) lent
+  sheet-kept lent =
+      let w = walkOf s start len f in
+      answer-kept (sheetAnswer w lent) (sheet-bits w lent (walk-fits s bytes start len f u32))
+
+  -- and every answer of the owner table
+  pub owners-kept : (lent left : List ℕ) (c : Counted) → Answered lent left (walkOf s start len f) c → unpackedOf (packedOf c) ≡ c
+  owners-kept lent left c x = answer-kept c (owners-bits lent left x (walk-fits s bytes start len f u32))
+
+  -- so what a caller takes from the call's word is the answer that the definition allows
+  pub owners-told : (lent left : List ℕ) (word : ℕ) → OwnersPacked (walkOf s start len f) lent left word
+      → Answered lent left (walkOf s start len f) (unpackedOf word)
+  owners-told lent left word (c, (e, x)) =
+      subst (Answered lent left (walkOf s start len f)) (sym (ap unpackedOf e ∙ owners-kept lent left c x)) x
+
+-- the listing's answer, of any slice
+pub list-kept : (s : List ℕ) (recovery : Bool) (lent left : List ℕ) (c : Counted) → Lists s (startOf recovery) lent left c
+    → unpackedOf (packedOf c) ≡ c
+list-kept s recovery lent left c x = answer-kept c (list-bits s recovery lent left c (fieldsAt s) refl (fields-fit s) x)
+
+pub list-told : (s : List ℕ) (recovery : Bool) (lent left : List ℕ) (word : ℕ) → ListPacked s recovery lent left word
+    → Lists s (startOf recovery) lent left (unpackedOf word)
+list-told s recovery lent left word (c, (e, x)) =
+    subst (Lists s (startOf recovery) lent left) (sym (ap unpackedOf e ∙ list-kept s recovery lent left c x)) x
+
+-- places past 2^32 are met, so that 32 bits would not do
+pub far-place : unpackedOf (packedOf (sheetAnswer (walkOf farStream 0 34 (flagsOf 0 0)) [])) ≡ C.Refused (record { number = 2; place = 2 ^ 32 + 33 })
+unfolding little otherAt tableAt valuesAt turnAt stepFrom walkFrom walkOf
+far-place = refl
