@@ -1,0 +1,3 @@
+-- Laws that the proofs here cite.
+pub mod Texts
+pub mod Walking
