@@ -46,7 +46,8 @@ going-start s recover lent at =
     record { ordered = start-ordered recover; kept = refl; done = []; back = λ items r. r; puts = put-none }
 
 module _ (s : List ℕ) (header : HasHeader s) {first : Walk} {lent : List ℕ} {at : ℕ} {w : Walk} {out : List ℕ} {end : ℕ}
-    (g : Going s first lent at w out end) (x : Stepped) (t : Steps s w x) {next : List ℕ} {m : ℕ} (p : Puts (itemLine s (x .item)) out end next m) where
+    (g : Going s first lent at w out end) (x : Stepped) (t : Steps s w x) {next : List ℕ} {m : ℕ}
+    (p : Puts (itemLine s (x .item)) out end next m) where
   pub going-next : (x .item ≡ I.Done → ⊥) → length next ≡ length out → Going s first lent at (x .state) next m
   going-next d k =
       let i = x .item in

@@ -9,13 +9,19 @@ use Rattle.chunk_answers.proofs.chunk_header.checksum.Statement.{statem
 use Rattle.chunk_answers.proofs.chunk_header.checksum.Tie as tie
 
 returns : tie.Need-returns
-returns c = put-as (ap (λ (k : Checksum). checksumLine (checksumAnswer k)) (sym (c .before .before .before .before .before .enum-told .given .1)) ∙ ap checksumLine (c .before .before .before .before .before .before .before .check-header .ensures)) (c .before .before .text .ensures)
+returns c =
+    let e = ap (λ (k : Checksum). checksumLine (checksumAnswer k)) (sym (c .before .before .before .before .before .enum-told .given .1)) in
+    put-as (e ∙ ap checksumLine (c .before .before .before .before .before .before .before .check-header .ensures)) (c .before .before .text .ensures)
 
 returns-2 : tie.Need-returns-2
-returns-2 c = put-as (ap (λ (k : Checksum). checksumLine (checksumAnswer k)) (sym (c .before .before .before .before .before .enum-told2 .given .1)) ∙ ap checksumLine (c .before .before .before .before .before .before .before .check-header .ensures)) (c .before .before .text2 .ensures)
+returns-2 c =
+    let e = ap (λ (k : Checksum). checksumLine (checksumAnswer k)) (sym (c .before .before .before .before .before .enum-told2 .given .1)) in
+    put-as (e ∙ ap checksumLine (c .before .before .before .before .before .before .before .check-header .ensures)) (c .before .before .text2 .ensures)
 
 returns-3 : tie.Need-returns-3
-returns-3 c = put-as (ap (λ (k : Checksum). checksumLine (checksumAnswer k)) (sym (c .before .before .before .before .before .r .given .1)) ∙ ap checksumLine (c .before .before .before .before .before .before .before .check-header .ensures)) (c .before .before .refused .ensures)
+returns-3 c =
+    let e = ap (λ (k : Checksum). checksumLine (checksumAnswer k)) (sym (c .before .before .before .before .before .r .given .1)) in
+    put-as (e ∙ ap checksumLine (c .before .before .before .before .before .before .before .check-header .ensures)) (c .before .before .refused .ensures)
 
 pub checksum-spec : {M : Type 1} → statement M
 checksum-spec =

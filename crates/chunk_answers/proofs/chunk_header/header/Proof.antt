@@ -10,8 +10,9 @@ use Rattle.chunk_answers.proofs.chunk_header.header.Tie as tie
 
 returns : tie.Need-returns
 returns c =
-    let h = c .before .before .before .before .before .before .before .before .before .before .before .before .before .before .before .read-header in
-    put-as (header-read _ (h .result) _ (h .ensures .0) (h .ensures .1 .0) (h .ensures .1 .1) (c .before .before .before .before .before .before .before .before .before .before .before .before .before .read .given .1))
+    let read = c .before .before .before .before .before .before .before .before .before .before .before .before .before in
+    let h = read .before .before .read-header in
+    put-as (header-read _ (h .result) _ (h .ensures .0) (h .ensures .1 .0) (h .ensures .1 .1) (read .read .given .1))
     (c .before .before .before .before .before .before .before .before .before .before .fields .ensures
     ▸ c .before .before .before .before .before .before .checksum .ensures
     ▸ c .before .before .tables .ensures)
@@ -19,7 +20,8 @@ returns c =
 returns-2 : tie.Need-returns-2
 returns-2 c =
     let h = c .before .before .before .before .before .before .before .read-header in
-    put-as (ap (headerOn _) (ap fieldsAnswer (sym (c .before .before .before .before .before .read2 .given .1)) ∙ h .ensures .0)) (c .before .before .refused .ensures)
+    let e = ap fieldsAnswer (sym (c .before .before .before .before .before .read2 .given .1)) ∙ h .ensures .0 in
+    put-as (ap (headerOn _) e) (c .before .before .refused .ensures)
 
 pub header-spec : {M : Type 1} → statement M
 header-spec =

@@ -9,19 +9,25 @@ use Rattle.chunk_answers.proofs.item.line.Tie as tie
 
 returns : tie.Need-returns
 returns c =
-    put-as (ap (lineOf (ascii "live")) (c .before .before .before .before .numbers .ensures) ∙ ap (itemLine (c .before .before .before .before .before .before .before .before .before .before .before .before .args .chunk .now)) (sym (c .before .before .before .before .before .before .before .before .item .given .1)))
-    (c .before .before .line .ensures)
+    let s = c .before .before .before .before .before .before .before .before .before .before .before .before .args .chunk .now in
+    let e = ap (itemLine s) (sym (c .before .before .before .before .before .before .before .before .item .given .1)) in
+    put-as (ap (lineOf (ascii "live")) (c .before .before .before .before .numbers .ensures) ∙ e) (c .before .before .line .ensures)
 
 returns-2 : tie.Need-returns-2
 returns-2 c =
-    put-as (ap (lineOf (ascii "carved")) (c .before .before .before .before .numbers2 .ensures) ∙ ap (itemLine (c .before .before .before .before .before .before .before .before .before .before .before .before .args .chunk .now)) (sym (c .before .before .before .before .before .before .before .before .item2 .given .1)))
-    (c .before .before .line2 .ensures)
+    let s = c .before .before .before .before .before .before .before .before .before .before .before .before .args .chunk .now in
+    let e = ap (itemLine s) (sym (c .before .before .before .before .before .before .before .before .item2 .given .1)) in
+    put-as (ap (lineOf (ascii "carved")) (c .before .before .before .before .numbers2 .ensures) ∙ e) (c .before .before .line2 .ensures)
 
 returns-3 : tie.Need-returns-3
-returns-3 c = put-as (ap (itemLine (c .before .before .before .before .before .before .before .before .before .args .chunk .now)) (sym (c .before .before .before .before .before .item3 .given .1))) (c .before .before .refused .ensures)
+returns-3 c =
+    let s = c .before .before .before .before .before .before .before .before .before .args .chunk .now in
+    put-as (ap (itemLine s) (sym (c .before .before .before .before .before .item3 .given .1))) (c .before .before .refused .ensures)
 
 returns-4 : tie.Need-returns-4
-returns-4 c = put-as (ap (itemLine (c .before .before .before .before .before .before .before .before .before .args .chunk .now)) (sym (c .before .before .before .before .before .enum-told .given .1))) (c .before .before .text .ensures)
+returns-4 c =
+    let s = c .before .before .before .before .before .before .before .before .before .args .chunk .now in
+    put-as (ap (itemLine s) (sym (c .before .before .before .before .before .enum-told .given .1))) (c .before .before .text .ensures)
 
 pub line-spec : {M : Type 1} → statement M
 line-spec =

@@ -14,18 +14,18 @@ use Rattle.chunk_answers.proofs.one_record.read.Tie as tie
 
 returns : tie.Need-returns
 returns c =
-    put-as
-    (ap (λ (l : List ℕ). lineOf (ascii "record") (take 5 (drop 1 l))) (c .before .before .before .before .before .before .before .numbers .ensures)
-    ∙ ap (λ (k : RecordRead). recordLine (c .before .before .before .before .before .before .before .before .before .before .before .before .before .before .args .chunk .now) (recordAnswer k)) (sym (c .before .before .before .before .before .before .before .before .before .r .given .1))
-    ∙ ap (recordLine (c .before .before .before .before .before .before .before .before .before .before .before .before .before .before .args .chunk .now)) (c .before .before .before .before .before .before .before .before .before .before .before .read-record .ensures))
-    (c .before .before .line .ensures)
+    let s = c .before .before .before .before .before .before .before .before .before .before .before .before .before .before .args .chunk .now in
+    let r = c .before .before .before .before .before .before .before .before .before in
+    let e = ap (λ (k : RecordRead). recordLine s (recordAnswer k)) (sym (r .r .given .1)) ∙ ap (recordLine s) (r .before .before .read-record .ensures) in
+    let n = c .before .before .before .before .before .before .before .numbers .ensures in
+    put-as (ap (λ (l : List ℕ). lineOf (ascii "record") (take 5 (drop 1 l))) n ∙ e) (c .before .before .line .ensures)
 
 returns-2 : tie.Need-returns-2
 returns-2 c =
-    put-as
-    (ap (λ (k : RecordRead). recordLine (c .before .before .before .before .before .before .before .before .before .before .args .chunk .now) (recordAnswer k)) (sym (c .before .before .before .before .before .r2 .given .1))
-    ∙ ap (recordLine (c .before .before .before .before .before .before .before .before .before .before .args .chunk .now)) (c .before .before .before .before .before .before .before .read-record .ensures))
-    (c .before .before .refused .ensures)
+    let s = c .before .before .before .before .before .before .before .before .before .before .args .chunk .now in
+    let r = c .before .before .before .before .before in
+    let e = ap (λ (k : RecordRead). recordLine s (recordAnswer k)) (sym (r .r2 .given .1)) ∙ ap (recordLine s) (r .before .before .read-record .ensures) in
+    put-as e (c .before .before .refused .ensures)
 
 pub read-spec : {M : Type 1} → statement M
 read-spec =

@@ -14,13 +14,18 @@ returns : tie.Need-returns
 returns c =
     let a = c .before .before .before .before .before .before .before .before .before .before .before .before .before .before .args in
     let line = recordLine (a .chunk .now) (recordAt (a .chunk .now) (a .start) (a .strict)) in
-    with-resync (a .chunk .now) (a .start) (a .strict) (c .before .before .before .before .before .before .before .resync-after .result) (c .before .before .before .before .before .before .before .resync-after .ensures)
-    (put-as (ap (λ (k : Resync). line ++ resyncLine k) (sym (c .before .before .before .before .before .found .given .1))) (c .before .before .before .before .before .before .before .before .before .before .read .ensures ▸ c .before .before .resync .ensures))
+    let q = c .before .before .before .before .before in
+    let resync = q .before .before .resync-after in
+    with-resync (a .chunk .now) (a .start) (a .strict) (resync .result) (resync .ensures)
+    (put-as (ap (λ (k : Resync). line ++ resyncLine k) (sym (q .found .given .1)))
+    (c .before .before .before .before .before .before .before .before .before .before .read .ensures
+    ▸ c .before .before .resync .ensures))
 
 returns-2 : tie.Need-returns-2
 returns-2 c =
     let a = c .before .before .before .before .before .before .before .before .before .args in
-    no-resync (a .chunk .now) (a .start) (a .strict) (c .before .before .resync-after .result) (c .before .before .resync-after .ensures) (ap resyncLine (c .enum-told .given .1))
+    let resync = c .before .before .resync-after in
+    no-resync (a .chunk .now) (a .start) (a .strict) (resync .result) (resync .ensures) (ap resyncLine (c .enum-told .given .1))
     (c .before .before .before .before .before .read .ensures)
 
 pub record-spec : {M : Type 1} → statement M

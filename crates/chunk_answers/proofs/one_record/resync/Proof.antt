@@ -7,7 +7,9 @@ use Rattle.chunk_answers.proofs.one_record.resync.Statement.{statement}
 use Rattle.chunk_answers.proofs.one_record.resync.Tie as tie
 
 returns : tie.Need-returns
-returns c = put-as (ap foundLine (sym (c .before .before .before .before .before .before .before .found .given .1))) (c .before .before .line .ensures)
+returns c =
+    let q = c .before .before .before .before .before .before .before in
+    put-as (ap foundLine (sym (q .found .given .1))) (c .before .before .line .ensures)
 
 returns-2 : tie.Need-returns-2
 returns-2 c = put-as (ap foundLine (sym (c .before .before .before .before .before .enum-told .given .1))) (c .before .before .text .ensures)

@@ -6,10 +6,18 @@ use Rattle.chunk_answers.proofs.one_step.state.Statement.{statement}
 use Rattle.chunk_answers.proofs.one_step.state.Tie as tie
 
 returns : tie.Need-returns
-returns c = put-as (state-line (c .before .before .before .before .before .before .before .before .before .before .before .args .w) _ _ (c .before .before .before .before .before .before .before .place .given .1) (c .before .before .before .before .before .before .before .before .before .flag .ensures)) (c .before .before .line .ensures)
+returns c =
+    let p = c .before .before .before .before .before .before .before in
+    let flag = c .before .before .before .before .before .before .before .before .before in
+    let w = c .before .before .before .before .before .before .before .before .before .before .before .args .w in
+    put-as (state-line w _ _ (p .place .given .1) (flag .flag .ensures)) (c .before .before .line .ensures)
 
 returns-2 : tie.Need-returns-2
-returns-2 c = put-as (state-line (c .before .before .before .before .before .before .before .before .before .before .args .w) _ _ (c .before .before .before .before .before .before .enum-told .given .1) (c .before .before .before .before .before .before .before .before .flag .ensures)) (c .before .before .line2 .ensures)
+returns-2 c =
+    let p = c .before .before .before .before .before .before in
+    let flag = c .before .before .before .before .before .before .before .before in
+    let w = c .before .before .before .before .before .before .before .before .before .before .args .w in
+    put-as (state-line w _ _ (p .enum-told .given .1) (flag .flag .ensures)) (c .before .before .line2 .ensures)
 
 pub state-spec : {M : Type 1} → statement M
 state-spec =

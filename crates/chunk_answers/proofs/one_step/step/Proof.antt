@@ -10,9 +10,13 @@ returns c = step-none (c .before .before .before .args .bytes .now) _ _ (c .if1 
 
 returns-2 : tie.Need-returns-2
 returns-2 c =
-    let s = c .before .before .before .before .before .before .before .before .before .before .before .before .before .before .before .args .bytes .now in
-    step-some s _ _ (c .before .before .before .before .before .before .before .before .before .step .result) (c .before .before .before .before .before .before .before .before .before .before .before .before .if1 .left) (behind s) (c .before .before .before .before .before .before .before .before .before .before .state-of .ensures) (c .before .before .before .before .before .before .before .before .before .step .ensures)
-    (c .before .before .before .before .before .before .line .ensures ▸ c .before .before .state .ensures)
+    let step = c .before .before .before .before .before .before .before .before .before in
+    let state = step .before in
+    let long = state .before .before in
+    let s = long .before .before .before .args .bytes .now in
+    step-some s _ _ (step .step .result) (long .if1 .left) (behind s) (state .state-of .ensures) (step .step .ensures)
+    (c .before .before .before .before .before .before .line .ensures
+    ▸ c .before .before .state .ensures)
 
 pub step-spec : {M : Type 1} → statement M
 step-spec =
