@@ -2,6 +2,7 @@
 // out). A title stands before each listing.
 mod make;
 
+use cursor::Part;
 use libc::STDOUT_FILENO;
 use make::fill;
 use make::header;
@@ -41,8 +42,11 @@ fn show(title: &[u8], buf: &[u8], n: usize) {
     io::write_all(STDOUT_FILENO, b"# ");
     io::write_all(STDOUT_FILENO, title);
     io::write_all(STDOUT_FILENO, b"\n");
-    let p = cursor::Part { start: 0, len: n };
-    listing_text::print(p.of(buf));
+    let mut out = [0u8; 262144];
+    let p = Part { start: 0, len: n };
+    let end = listing_text::put(&mut out, 0, p.of(buf));
+    let filled = Part { start: 0, len: end };
+    io::write_all(STDOUT_FILENO, filled.of(&out));
 }
 
 fn listed(title: &[u8], buf: &[u8]) {
