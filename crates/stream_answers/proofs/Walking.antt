@@ -2,17 +2,17 @@
 use mathlib.Core.Path.{_≡_, refl, sym, ap, _∙_}
 use mathlib.Core.Bool.{Bool, true, false}
 use mathlib.Core.List.{List, [], _∷_, _++_, append-assoc}
-use Prim.Native.Nat.{ℕ, zero, suc, _+_, _-_, _≤_}
+use Prim.Native.Nat.{ℕ, _+_, _-_}
 use native.Mathlib.Omega.{arith}
 use borrow.Author.Tests.{le-ltb}
 use lib.Dec.{leb}
 use lib.ListN.{length}
-use Rattle.cursor.specs.Answer.{Answer, given, refused, pick}
+use Rattle.cursor.specs.Answer.{given, refused, pick}
 use Rattle.cursor.specs.Refusals.{wrongLength, pastEnd}
 use Rattle.cursor.specs.declared.Counted.{Counted}
 use Rattle.cursor.specs.declared.Counted.the-variants as C
 use Rattle.cursor.specs.declared.Refusal.{Refusal}
-use Rattle.tokens.specs.Walk.{Met, handed, over, Walked, ok, bad, turnAt, stepAt, walkAt, walkOf, countedOf}
+use Rattle.tokens.specs.Walk.{handed, over, Walked, ok, bad, turnAt, stepAt, walkAt, walkOf, countedOf}
 use Rattle.tokens.specs.declared.Flags.{Flags}
 use Rattle.tokens.specs.declared.Token.{Token}
 use Rattle.tokens.proofs.Steps.{step-is, walk-is, walk-token, plus, plus-zero, plus-none, plus-before}
@@ -20,7 +20,7 @@ use Rattle.sheet.specs.Sheet.{readAt}
 use Rattle.sheet.proofs.Noting.{read-is, read-token}
 use Rattle.print.specs.Text.{ascii, lineOf, refusedOf}
 use Rattle.stream_answers.specs.Token.{tokenText}
-use Rattle.stream_answers.specs.Walk.{tokensText, lastText, listedOf, walkText}
+use Rattle.stream_answers.specs.Walk.{tokensText, lastText, walkText}
 
 module _ (s : List ℕ) (end : ℕ) (f : Flags) where
   -- what is left to write when the walk stands at `at` after n tokens

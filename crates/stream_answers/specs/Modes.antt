@@ -9,7 +9,7 @@ use Rattle.cursor.specs.Reads.{numberOf}
 use Rattle.cursor.specs.declared.Counted.{Counted}
 use Rattle.cursor.specs.declared.Counted.the-variants as C
 use Rattle.tokens.specs.Single.{singleOf, endsOf}
-use Rattle.tokens.specs.Walk.{Walked}
+use Rattle.tokens.specs.Walk.{Walked, walkOf}
 use Rattle.tokens.specs.declared.Single.{Single}
 use Rattle.tokens.specs.declared.Single.the-variants.{At, Nothing}
 use Rattle.tokens.specs.declared.Ends.{Ends}
@@ -17,6 +17,7 @@ use Rattle.tokens.specs.declared.Ends.the-variants.{Yes, No, Beyond}
 use Rattle.sheet.specs.Sheet.{sheetAnswer, sheetWords}
 use Rattle.body.specs.Verdict.{Answered}
 use Rattle.doortumble.specs.Calls.{packedOf, OwnersPacked}
+use Rattle.stream_answers.specs.declared.Asked.{Asked}
 use Rattle.print.specs.Text.{ascii, each, hexWord, spacedWord, spacedHalf, lineOf, refusedOf}
 
 -- "`single` offset or `single none`"
@@ -33,6 +34,10 @@ endsText Beyond = ascii "ends none\n"
 -- S: "data is the stream, `start` is how much was consumed"
 abbrev pub singleLines : List ℕ → ℕ → List ℕ
 singleLines s consumed = singleText (singleOf s) ++ endsText (endsOf s consumed)
+
+-- the walk that is asked for
+abbrev pub askedWalk : List ℕ → Asked → Walked
+askedWalk s a = walkOf s (a .start) (a .length) (a .flags)
 
 -- O: "`owners` and the words, or `refused` number place": the words of as many tokens as the answer counts
 abbrev pub ownersText : Counted → List ℕ → List ℕ

@@ -2,11 +2,9 @@
 use crate::Asked;
 use crate::ROOM;
 ghost use mathlib.Core.Path.{_≡_};
-ghost use Rattle.cursor.specs.Reads.{numberOf};
 ghost use lib.ListN.{take};
-ghost use Rattle.tokens.specs.Walk.{walkOf};
 ghost use Rattle.print.specs.Text.{Puts, PutsSome};
-ghost use Rattle.stream_answers.specs.Modes.{answerText, wordsText, tableText, sheetText, OwnersCalled, streamOf, roomIn};
+ghost use Rattle.stream_answers.specs.Modes.{askedWalk, answerText, wordsText, tableText, sheetText, OwnersCalled, streamOf, roomIn};
 
 // The words that are lent are the first of those that are there, or all of them.
 pub(crate) fn sheet_of(
@@ -16,7 +14,7 @@ pub(crate) fn sheet_of(
     asked: Asked,
     words: &mut [u64],
 ) -> usize
-    ensures { λ r. ⌜ Puts (sheetText (walkOf (streamOf (now (bytes .entry))) (asked .start) (asked .length) (asked .flags)) (take (roomIn (now (bytes .entry))) (now (words .entry)))) (now (out .entry)) at (now (out .exit)) r ⌝ }
+    ensures { λ r. ⌜ Puts (sheetText (askedWalk (streamOf (now (bytes .entry))) asked) (take (roomIn (now (bytes .entry))) (now (words .entry)))) (now (out .entry)) at (now (out .exit)) r ⌝ }
 {
     let room = cursor::u32_at(bytes, 0) as usize;
     if words.len() < room {
@@ -26,7 +24,7 @@ pub(crate) fn sheet_of(
 }
 
 fn sheet_in(out: &mut [u8], at: usize, s: &[u8], asked: Asked, words: &mut [u64]) -> usize
-    ensures { λ r. ⌜ Puts (sheetText (walkOf (now (s .entry)) (asked .start) (asked .length) (asked .flags)) (now (words .entry))) (now (out .entry)) at (now (out .exit)) r ⌝ }
+    ensures { λ r. ⌜ Puts (sheetText (askedWalk (now (s .entry)) asked) (now (words .entry))) (now (out .entry)) at (now (out .exit)) r ⌝ }
 {
     let f = asked.flags;
     let r = doortumble::doortumble_sheet(
@@ -48,7 +46,7 @@ pub(crate) fn owners_of(
     asked: Asked,
     words: &mut [u32],
 ) -> usize
-    ensures { λ r. ⌜ PutsSome (OwnersCalled (walkOf (streamOf (now (bytes .entry))) (asked .start) (asked .length) (asked .flags)) (take (roomIn (now (bytes .entry))) (now (words .entry)))) (now (out .entry)) at (now (out .exit)) r ⌝ }
+    ensures { λ r. ⌜ PutsSome (OwnersCalled (askedWalk (streamOf (now (bytes .entry))) asked) (take (roomIn (now (bytes .entry))) (now (words .entry)))) (now (out .entry)) at (now (out .exit)) r ⌝ }
 {
     let room = cursor::u32_at(bytes, 0) as usize;
     if words.len() < room {
@@ -58,7 +56,7 @@ pub(crate) fn owners_of(
 }
 
 fn owners_in(out: &mut [u8], at: usize, s: &[u8], asked: Asked, words: &mut [u32]) -> usize
-    ensures { λ r. ⌜ PutsSome (OwnersCalled (walkOf (now (s .entry)) (asked .start) (asked .length) (asked .flags)) (now (words .entry))) (now (out .entry)) at (now (out .exit)) r ⌝ }
+    ensures { λ r. ⌜ PutsSome (OwnersCalled (askedWalk (now (s .entry)) asked) (now (words .entry))) (now (out .entry)) at (now (out .exit)) r ⌝ }
 {
     let f = asked.flags;
     let r = doortumble::doortumble_owners(

@@ -10,11 +10,9 @@ use tokens::Ends;
 use tokens::Flags;
 use tokens::Single;
 ghost use Prim.Native.Nat.{_-_, _^_};
-ghost use Rattle.tokens.specs.Single.{singleOf, endsOf};
-ghost use Rattle.tokens.specs.Walk.{walkOf};
 ghost use Rattle.print.specs.Text.{ascii, Puts, PutsSome, lineOf};
 ghost use Rattle.stream_answers.specs.Walk.{walkText};
-ghost use Rattle.stream_answers.specs.Modes.{singleText, endsText, singleLines, OwnersSaid, sheetText, OwnersCalled, lentWords, streamOf};
+ghost use Rattle.stream_answers.specs.Modes.{askedWalk, singleText, endsText, singleLines, OwnersSaid, sheetText, OwnersCalled, lentWords, streamOf};
 
 // What of a stream is asked for, and how it is read.
 pub struct Asked {
@@ -72,7 +70,7 @@ fn ends_line(out: &mut [u8], at: usize, e: Ends) -> usize
 
 // Mode O: the owner table of a stream, or why it is no body.
 pub fn owners(out: &mut [u8], at: usize, s: &[u8], asked: Asked) -> usize
-    ensures { λ r. ⌜ PutsSome (OwnersSaid (walkOf (now (s .entry)) (asked .start) (asked .length) (asked .flags))) (now (out .entry)) at (now (out .exit)) r ⌝ }
+    ensures { λ r. ⌜ PutsSome (OwnersSaid (askedWalk (now (s .entry)) asked)) (now (out .entry)) at (now (out .exit)) r ⌝ }
 {
     let mut table = [0u32; MOST];
     match body::owners(s, asked.start, asked.length, asked.flags, &mut table) {
@@ -91,14 +89,14 @@ fn owner_line(out: &mut [u8], at: usize, words: &[u32]) -> usize
 
 // Mode C: what the sheet call and the owner call answer on lent words, and what they leave there. Each word is first set to all ones.
 pub fn sheet_call(out: &mut [u8], at: usize, bytes: &[u8], asked: Asked) -> usize
-    ensures { λ r. ⌜ Puts (sheetText (walkOf (streamOf (now (bytes .entry))) (asked .start) (asked .length) (asked .flags)) (lentWords (now (bytes .entry)) (2 ^ 64 - 1))) (now (out .entry)) at (now (out .exit)) r ⌝ }
+    ensures { λ r. ⌜ Puts (sheetText (askedWalk (streamOf (now (bytes .entry))) asked) (lentWords (now (bytes .entry)) (2 ^ 64 - 1))) (now (out .entry)) at (now (out .exit)) r ⌝ }
 {
     let mut words = [0xFFFF_FFFF_FFFF_FFFFu64; MOST];
     call::sheet_of(out, at, bytes, asked, &mut words)
 }
 
 pub fn owners_call(out: &mut [u8], at: usize, bytes: &[u8], asked: Asked) -> usize
-    ensures { λ r. ⌜ PutsSome (OwnersCalled (walkOf (streamOf (now (bytes .entry))) (asked .start) (asked .length) (asked .flags)) (lentWords (now (bytes .entry)) (2 ^ 32 - 1))) (now (out .entry)) at (now (out .exit)) r ⌝ }
+    ensures { λ r. ⌜ PutsSome (OwnersCalled (askedWalk (streamOf (now (bytes .entry))) asked) (lentWords (now (bytes .entry)) (2 ^ 32 - 1))) (now (out .entry)) at (now (out .exit)) r ⌝ }
 {
     let mut words = [0xFFFF_FFFFu32; MOST];
     call::owners_of(out, at, bytes, asked, &mut words)
