@@ -49,7 +49,8 @@ module _ (z : ℤ) (f : SFits w64 z) where
     back : toZ w64 (ofZ w64 (negsuc 0 -ℤ toZ w64 (ofZ w64 z))) ≡ pos (y .0)
     back = toZ-ofZ w64 (negsuc 0 -ℤ toZ w64 (ofZ w64 z)) less-fits ∙ less
 
-    pub less-number : T (nonNeg (toZ w64 (ofZ w64 (negsuc 0 -ℤ toZ w64 (ofZ w64 z))))) × Fits w64 (natAbs (toZ w64 (ofZ w64 (negsuc 0 -ℤ toZ w64 (ofZ w64 z)))))
+    pub less-number : T (nonNeg (toZ w64 (ofZ w64 (negsuc 0 -ℤ toZ w64 (ofZ w64 z)))))
+        × Fits w64 (natAbs (toZ w64 (ofZ w64 (negsuc 0 -ℤ toZ w64 (ofZ w64 z)))))
     less-number = as-number _ (y .0) back (y .1 .1)
 
     pub less-small : natAbs (toZ w64 (ofZ w64 (negsuc 0 -ℤ toZ w64 (ofZ w64 z)))) < 2 ^ 63

@@ -19,27 +19,33 @@ array-share-prefix-table c =
 
 slice-aggregate-owner-line : tie.Need-slice-aggregate-owner-line
 slice-aggregate-owner-line c =
-    let o = c .before .before .before .before .before .before .owners in
+    let p = c .before .before .before .before .before in
+    let q = p .before in
+    let o = q .owners in
     let h = counted-fits (replicate 65536 0) _ _ _ _ (o .ensures) (c .before .before .before .n .given .1) in
-    sym (length-take-le _ (o .last .1 .1 .1 .1 .0) (omega (arith, h, c .before .before .before .before .before .table2 .given, length-replicate {A = ℕ} 65536 0)))
+    sym (length-take-le _ (o .last .1 .1 .1 .1 .0) (omega (arith, h, p .table2 .given, length-replicate {A = ℕ} 65536 0)))
 
 returns : tie.Need-returns
 returns c =
-    let o = c .before .before .before .before .before .before .before .before .before .owners in
+    let p = c .before .before .before .before .before .before in
+    let q = p .before .before .before in
+    let o = q .owners in
     let left = o .last .1 .1 .1 .1 .0 in
     record {
       text = _;
-      allowed = record { answer = o .result; left = left; answered = o .ensures; is = ap (λ (x : Counted). ownersText x left) (sym (c .before .before .before .before .before .before .n .given .1)) };
+      allowed = record { answer = o .result; left = left; answered = o .ensures; is = ap (λ (x : Counted). ownersText x left) (sym (p .n .given .1)) };
       puts = c .before .before .owner-line .ensures;
     }
 
 returns-2 : tie.Need-returns-2
 returns-2 c =
-    let o = c .before .before .before .before .before .before .before .before .owners in
+    let p = c .before .before .before .before .before in
+    let q = p .before .before .before in
+    let o = q .owners in
     let left = o .last .1 .1 .1 .1 .0 in
     record {
       text = _;
-      allowed = record { answer = o .result; left = left; answered = o .ensures; is = ap (λ (x : Counted). ownersText x left) (sym (c .before .before .before .before .before .r .given .1)) };
+      allowed = record { answer = o .result; left = left; answered = o .ensures; is = ap (λ (x : Counted). ownersText x left) (sym (p .r .given .1)) };
       puts = c .before .before .refused .ensures;
     }
 

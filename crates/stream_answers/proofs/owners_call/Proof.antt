@@ -3,18 +3,20 @@ use borrow.Author.Needs.{needs}
 use mathlib.Core.Path.{ap}
 use mathlib.Core.List.{List}
 use Prim.Native.Nat.{ℕ}
-use Rattle.tokens.specs.Walk.{walkOf}
 use Rattle.stream_answers.proofs.Parts.{some-as}
-use Rattle.stream_answers.specs.Modes.{OwnersCalled, roomIn, streamOf}
+use Rattle.stream_answers.specs.Modes.{askedWalk, OwnersCalled, roomIn, streamOf}
 use Rattle.stream_answers.proofs.Lending.{take-replicate}
 use Rattle.stream_answers.proofs.owners_call.Statement.{statement}
 use Rattle.stream_answers.proofs.owners_call.Tie as tie
 
 returns : tie.Need-returns
 returns c =
-    let a = c .before .before .before .before .before .before .before .before .args in
-    let w = walkOf (streamOf (a .bytes .now)) (a .asked .start) (a .asked .length) (a .asked .flags) in
-    some-as (ap (λ (l : List ℕ). OwnersCalled w l) (take-replicate 4294967295 (roomIn (a .bytes .now)) 65536)) (c .before .before .before .owners-of .ensures)
+    let p = c .before .before .before .before .before .before .before .before in
+    let a = p .args in
+    let w = askedWalk (streamOf (a .bytes .now)) (a .asked) in
+    some-as
+    (ap (λ (l : List ℕ). OwnersCalled w l) (take-replicate 4294967295 (roomIn (a .bytes .now)) 65536))
+    (c .before .before .before .owners-of .ensures)
 
 pub owners-call-spec : {M : Type 1} → statement M
 owners-call-spec =

@@ -3,18 +3,20 @@ use borrow.Author.Needs.{needs}
 use mathlib.Core.Path.{ap}
 use mathlib.Core.List.{List}
 use Prim.Native.Nat.{ℕ}
-use Rattle.tokens.specs.Walk.{walkOf}
 use Rattle.print.proofs.Putting.{put-as}
-use Rattle.stream_answers.specs.Modes.{sheetText, roomIn, streamOf}
+use Rattle.stream_answers.specs.Modes.{askedWalk, sheetText, roomIn, streamOf}
 use Rattle.stream_answers.proofs.Lending.{take-replicate}
 use Rattle.stream_answers.proofs.sheet_call.Statement.{statement}
 use Rattle.stream_answers.proofs.sheet_call.Tie as tie
 
 returns : tie.Need-returns
 returns c =
-    let a = c .before .before .before .before .before .before .before .before .args in
-    let w = walkOf (streamOf (a .bytes .now)) (a .asked .start) (a .asked .length) (a .asked .flags) in
-    put-as (ap (λ (l : List ℕ). sheetText w l) (take-replicate 18446744073709551615 (roomIn (a .bytes .now)) 65536)) (c .before .before .before .sheet-of .ensures)
+    let p = c .before .before .before .before .before .before .before .before in
+    let a = p .args in
+    let w = askedWalk (streamOf (a .bytes .now)) (a .asked) in
+    put-as
+    (ap (λ (l : List ℕ). sheetText w l) (take-replicate 18446744073709551615 (roomIn (a .bytes .now)) 65536))
+    (c .before .before .before .sheet-of .ensures)
 
 pub sheet-call-spec : {M : Type 1} → statement M
 sheet-call-spec =

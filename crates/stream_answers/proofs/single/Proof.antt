@@ -8,7 +8,9 @@ use Rattle.stream_answers.proofs.single.Tie as tie
 
 returns : tie.Need-returns
 returns c =
-    put-as (ap singleText (c .before .before .before .before .before .before .before .before .single-instance-offset .ensures)) (c .before .before .before .before .before .before .before .start-line .ensures)
+    let p = c .before .before .before .before .before .before .before in
+    let q = p .before in
+    put-as (ap singleText (q .single-instance-offset .ensures)) (p .start-line .ensures)
     ▸ put-as (ap endsText (c .before .before .before .ends-stream .ensures)) (c .before .before .ends-line .ensures)
 
 pub single-spec : {M : Type 1} → statement M

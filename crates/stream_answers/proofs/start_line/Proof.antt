@@ -7,7 +7,9 @@ use Rattle.stream_answers.proofs.start_line.Statement.{statement}
 use Rattle.stream_answers.proofs.start_line.Tie as tie
 
 returns : tie.Need-returns
-returns c = put-as (ap singleText (sym (c .before .before .before .before .before .before .before .found .given .1))) (c .before .before .line .ensures)
+returns c =
+    let p = c .before .before .before .before .before .before .before in
+    put-as (ap singleText (sym (p .found .given .1))) (c .before .before .line .ensures)
 
 returns-2 : tie.Need-returns-2
 returns-2 c = put-as (ap singleText (sym (c .before .before .before .before .before .enum-told .given .1))) (c .before .before .text .ensures)

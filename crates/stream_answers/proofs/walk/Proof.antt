@@ -8,13 +8,23 @@ use Rattle.stream_answers.proofs.walk.Tie as tie
 
 returns : tie.Need-returns
 returns c =
-    let a = c .before .before .before .before .before .before .before .before .before .before .before .args in
-    put-as (sym (told-refused (a .s .now) (a .asked .start) (a .asked .length) (a .asked .flags) _ _ (c .before .before .before .before .before .before .before .count .ensures) (c .before .before .before .before .before .r .given .1))) (c .before .before .refused .ensures)
+    let p = c .before .before .before .before .before in
+    let q = p .before .before in
+    let r = q .before .before .before .before in
+    let a = r .args in
+    put-as
+    (sym (told-refused (a .s .now) (a .asked .start) (a .asked .length) (a .asked .flags) _ _ (q .count .ensures) (p .r .given .1)))
+    (c .before .before .refused .ensures)
 
 returns-2 : tie.Need-returns-2
 returns-2 c =
-    let a = c .before .before .before .before .before .before .before .before .before .before .before .args in
-    put-as (sym (told-counted (a .s .now) (a .asked .start) (a .asked .length) (a .asked .flags) _ _ (c .before .before .before .before .before .before .before .count .ensures) (c .before .before .before .before .before .enum-told .given .1))) (c .before .before .lines .ensures)
+    let p = c .before .before .before .before .before in
+    let q = p .before .before in
+    let r = q .before .before .before .before in
+    let a = r .args in
+    put-as
+    (sym (told-counted (a .s .now) (a .asked .start) (a .asked .length) (a .asked .flags) _ _ (q .count .ensures) (p .enum-told .given .1)))
+    (c .before .before .lines .ensures)
 
 pub walk-spec : {M : Type 1} → statement M
 walk-spec =

@@ -11,8 +11,11 @@ use Rattle.stream_answers.proofs.call.owners_in.Tie as tie
 
 returns : tie.Need-returns
 returns c =
-    let a = c .before .before .before .before .before .before .before .before .before .before .before .before .before .before .before .before .before .before .before .args in
-    let d = c .before .before .before .before .before .before .before .before .before .before .before .doortumble-owners in
+    let p = c .before .before .before .before .before .before .before in
+    let q = p .before .before .before .before in
+    let r = q .before .before .before .before .before .before .before .before in
+    let a = r .args in
+    let d = q .doortumble-owners in
     let e = flags-back (a .asked .flags) in
     let left = d .last .1 .1 .1 .1 .1 .0 in
     record {
@@ -23,7 +26,7 @@ returns c =
         packed = subst (λ (f : Flags). OwnersPacked (walkOf (a .s .now) (a .asked .start) (a .asked .length) f) (a .words .now) left (d .result)) e (d .ensures);
         is = refl;
       };
-      puts = c .before .before .before .before .before .before .before .said .ensures ▸ c .before .before .table-line .ensures;
+      puts = p .said .ensures ▸ c .before .before .table-line .ensures;
     }
 
 pub owners-in-spec : {M : Type 1} → statement M

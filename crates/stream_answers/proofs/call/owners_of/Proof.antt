@@ -6,33 +6,43 @@ use Prim.Native.Nat.{ℕ, _≤_}
 use native.Mathlib.Omega.{arith}
 use lib.ListN.{length, take}
 use lib.Seq.{take-all, length-take-le}
-use Rattle.tokens.specs.Walk.{walkOf}
 use Rattle.stream_answers.proofs.Parts.{some-as}
-use Rattle.stream_answers.specs.Modes.{OwnersCalled, roomIn, streamOf}
+use Rattle.stream_answers.specs.Modes.{askedWalk, OwnersCalled, roomIn, streamOf}
 use Rattle.stream_answers.proofs.call.owners_of.Statement.{statement}
 use Rattle.stream_answers.proofs.call.owners_of.Tie as tie
 
 returns : tie.Need-returns
 returns c =
-    let a = c .before .before .before .before .before .before .before .before .before .before .before .before .before .args in
+    let p = c .before .before .before .before in
+    let q = p .before .before in
+    let r = q .before .before in
+    let u = r .before in
+    let v = u .before .before .before .before in
+    let a = v .args in
     let b = a .bytes .now in
-    let h : length (a .words .now) ≤ roomIn b = omega (arith, c .before .before .before .before .before .before .before .before .if1 .taken, c .before .before .before .before .before .before .before .before .before .u32-at .ensures) in
+    let h : length (a .words .now) ≤ roomIn b = omega (arith, r .if1 .taken, u .u32-at .ensures) in
     some-as
-    (ap (λ (s : List ℕ). OwnersCalled (walkOf s (a .asked .start) (a .asked .length) (a .asked .flags)) (a .words .now)) (c .before .before .before .before .before .before .stream-of .ensures)
-    ∙ ap (λ (w : List ℕ). OwnersCalled (walkOf (streamOf b) (a .asked .start) (a .asked .length) (a .asked .flags)) w) (sym (take-all (roomIn b) (a .words .now) h)))
-    (c .before .before .before .before .owners-in .ensures)
+    (ap (λ (s : List ℕ). OwnersCalled (askedWalk s (a .asked)) (a .words .now)) (q .stream-of .ensures)
+    ∙ ap (λ (w : List ℕ). OwnersCalled (askedWalk (streamOf b) (a .asked)) w) (sym (take-all (roomIn b) (a .words .now) h)))
+    (p .owners-in .ensures)
 
 slice-aggregate-owners-in : tie.Need-slice-aggregate-owners-in
-slice-aggregate-owners-in c = sym (length-take-le _ (c .before .before .before .before .before .before .before .before .args .words .now) (omega arith))
+slice-aggregate-owners-in c =
+    let p = c .before .before .before .before .before .before .before .before in
+    sym (length-take-le _ (p .args .words .now) (omega arith))
 
 returns-2 : tie.Need-returns-2
 returns-2 c =
-    let a = c .before .before .before .before .before .before .before .before .before .before .before .before .before .args in
+    let p = c .before .before .before .before in
+    let q = p .before .before in
+    let r = q .before .before .before in
+    let u = r .before .before .before .before in
+    let a = u .args in
     let b = a .bytes .now in
     some-as
-    (ap (λ (s : List ℕ). OwnersCalled (walkOf s (a .asked .start) (a .asked .length) (a .asked .flags)) (take (c .before .before .before .before .before .before .before .before .before .u32-at .result) (a .words .now))) (c .before .before .before .before .before .before .stream-of2 .ensures)
-    ∙ ap (λ (n : ℕ). OwnersCalled (walkOf (streamOf b) (a .asked .start) (a .asked .length) (a .asked .flags)) (take n (a .words .now))) (c .before .before .before .before .before .before .before .before .before .u32-at .ensures))
-    (c .before .before .before .before .owners-in2 .ensures)
+    (ap (λ (s : List ℕ). OwnersCalled (askedWalk s (a .asked)) (take (r .u32-at .result) (a .words .now))) (q .stream-of2 .ensures)
+    ∙ ap (λ (n : ℕ). OwnersCalled (askedWalk (streamOf b) (a .asked)) (take n (a .words .now))) (r .u32-at .ensures))
+    (p .owners-in2 .ensures)
 
 pub owners-of-spec : {M : Type 1} → statement M
 owners-of-spec =

@@ -13,11 +13,14 @@ use Rattle.stream_answers.proofs.call.sheet_in.Tie as tie
 
 returns : tie.Need-returns
 returns c =
-    let a = c .before .before .before .before .before .before .before .before .before .before .before .before .before .before .before .before .before .before .before .args in
-    let d = c .before .before .before .before .before .before .before .before .before .before .before .doortumble-sheet in
+    let p = c .before .before .before .before .before .before .before in
+    let q = p .before .before .before .before in
+    let r = q .before .before .before .before .before .before .before .before in
+    let a = r .args in
+    let d = q .doortumble-sheet in
     let e = flags-back (a .asked .flags) in
     let w : Flags → Walked = λ f. walkOf (a .s .now) (a .asked .start) (a .asked .length) f in
-    put-as (ap answerText (d .ensures .0 ∙ ap (λ (f : Flags). packedOf (sheetAnswer (w f) (a .words .now))) e)) (c .before .before .before .before .before .before .before .said .ensures)
+    put-as (ap answerText (d .ensures .0 ∙ ap (λ (f : Flags). packedOf (sheetAnswer (w f) (a .words .now))) e)) (p .said .ensures)
     ▸ put-as (ap wordsText (d .ensures .1 ∙ ap (λ (f : Flags). sheetWords (w f) (a .words .now)) e)) (c .before .before .sheet-line .ensures)
 
 pub sheet-in-spec : {M : Type 1} → statement M

@@ -17,18 +17,34 @@ returns c =
 
 returns-2 : tie.Need-returns-2
 returns-2 c =
-    let a = c .before .before .before .before .before .before .before .before .before .before .before .args in
-    put-as (ap (λ (l : List ℕ). ascii "t" ++ hexOf l) (c .before .before .before .of .ensures) ∙ ap (heldText (a .s .now) (a .v .code)) (sym (c .before .before .before .before .before .before .before .c .given .1))) (c .before .before .bytes .ensures)
+    let p = c .before .before .before .before .before .before .before in
+    let q = p .before .before .before .before in
+    let a = q .args in
+    put-as
+    (ap (λ (l : List ℕ). ascii "t" ++ hexOf l) (c .before .before .before .of .ensures)
+    ∙ ap (heldText (a .s .now) (a .v .code)) (sym (p .c .given .1)))
+    (c .before .before .bytes .ensures)
 
 returns-3 : tie.Need-returns-3
 returns-3 c =
-    let a = c .before .before .before .before .before .before .before .before .before .before .before .args in
-    put-as (ap numberText (c .before .before .before .decode .ensures ∙ ap (decodedOf (a .v .code)) (c .before .before .before .before .of2 .ensures)) ∙ ap (heldText (a .s .now) (a .v .code)) (sym (c .before .before .before .before .before .before .before .c2 .given .1))) (c .before .before .number .ensures)
+    let p = c .before .before .before .before in
+    let q = p .before .before .before in
+    let r = q .before .before .before .before in
+    let a = r .args in
+    put-as
+    (ap numberText (c .before .before .before .decode .ensures ∙ ap (decodedOf (a .v .code)) (p .of2 .ensures))
+    ∙ ap (heldText (a .s .now) (a .v .code)) (sym (q .c2 .given .1)))
+    (c .before .before .number .ensures)
 
 returns-4 : tie.Need-returns-4
 returns-4 c =
-    let a = c .before .before .before .before .before .before .before .before .before .before .args in
-    put-as (ap (λ (l : List ℕ). ascii "b" ++ hexOf l) (c .before .before .before .of3 .ensures) ∙ ap (heldText (a .s .now) (a .v .code)) (sym (c .before .before .before .before .before .before .c3 .given .1))) (c .before .before .bytes2 .ensures)
+    let p = c .before .before .before .before .before .before in
+    let q = p .before .before .before .before in
+    let a = q .args in
+    put-as
+    (ap (λ (l : List ℕ). ascii "b" ++ hexOf l) (c .before .before .before .of3 .ensures)
+    ∙ ap (heldText (a .s .now) (a .v .code)) (sym (p .c3 .given .1)))
+    (c .before .before .bytes2 .ensures)
 
 pub content-spec : {M : Type 1} → statement M
 content-spec =

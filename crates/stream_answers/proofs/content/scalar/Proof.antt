@@ -15,17 +15,29 @@ use Rattle.stream_answers.proofs.content.scalar.Tie as tie
 
 returns : tie.Need-returns
 returns c =
-    let e = ap (λ (z : ℤ). ascii "i" ++ signedText z) (toZ-ofZ w64 (c .before .before .before .before .before .x .given .0 .0) (record { sfits = c .before .before .before .before .known-told .given .0 .1 })) in
-    put-as (e ∙ ap (scalarText (c .before .before .before .before .before .before .before .before .args .bits)) (sym (c .before .before .before .before .before .x .given .1))) (c .before .before .signed .ensures)
+    let p = c .before .before .before .before in
+    let q = p .before in
+    let r = q .before .before .before in
+    let e = ap (λ (z : ℤ). ascii "i" ++ signedText z) (toZ-ofZ w64 (q .x .given .0 .0) (record { sfits = p .known-told .given .0 .1 })) in
+    put-as (e ∙ ap (scalarText (r .args .bits)) (sym (q .x .given .1))) (c .before .before .signed .ensures)
 
 returns-2 : tie.Need-returns-2
-returns-2 c = put-as (ap (scalarText (c .before .before .before .before .before .before .before .before .args .bits)) (sym (c .before .before .before .before .before .x2 .given .1))) (c .before .before .unsigned .ensures)
+returns-2 c =
+    let p = c .before .before .before .before .before in
+    let q = p .before .before .before in
+    put-as (ap (scalarText (q .args .bits)) (sym (p .x2 .given .1))) (c .before .before .unsigned .ensures)
 
 returns-3 : tie.Need-returns-3
-returns-3 c = put-as (ap (scalarText (c .before .before .before .before .before .before .before .args .bits)) (sym (c .before .before .before .before .enum-told .given .1))) (c .before .before .single .ensures)
+returns-3 c =
+    let p = c .before .before .before .before in
+    let q = p .before .before .before in
+    put-as (ap (scalarText (q .args .bits)) (sym (p .enum-told .given .1))) (c .before .before .single .ensures)
 
 returns-4 : tie.Need-returns-4
-returns-4 c = put-as (ap (scalarText (c .before .before .before .before .before .before .before .args .bits)) (sym (c .before .before .before .before .enum-told2 .given .1))) (c .before .before .double .ensures)
+returns-4 c =
+    let p = c .before .before .before .before in
+    let q = p .before .before .before in
+    put-as (ap (scalarText (q .args .bits)) (sym (p .enum-told2 .given .1))) (c .before .before .double .ensures)
 
 pub scalar-spec : {M : Type 1} → statement M
 scalar-spec =

@@ -10,11 +10,17 @@ use Rattle.stream_answers.proofs.field.instance.Tie as tie
 
 returns : tie.Need-returns
 returns c =
-    let a = c .before .before .before .before .before .before .before .before .before .before .before .before .before .before .before .before .before .before .before .before .before .before .before .before .before .before .before .before .args in
-    c .before .before .before .before .before .before .before .before .before .before .before .before .before .before .before .before .before .before .before .before .before .before .before .number .ensures
-    ▸ c .before .before .before .before .before .before .before .before .before .before .before .before .before .before .before .before .before .before .number2 .ensures
-    ▸ put-as (ap bytesField (c .before .before .before .before .before .before .before .before .before .before .before .before .before .of .ensures)) (c .before .before .before .before .before .before .before .before .before .before .before .before .bytes .ensures)
-    ▸ c .before .before .before .before .before .before .before .number3 .ensures
+    let p = c .before .before .before .before .before .before .before in
+    let q = p .before .before .before .before .before in
+    let r = q .before in
+    let u = r .before .before .before .before .before in
+    let x = u .before .before .before .before .before in
+    let y = x .before .before .before .before .before in
+    let a = y .args in
+    x .number .ensures
+    ▸ u .number2 .ensures
+    ▸ put-as (ap bytesField (r .of .ensures)) (q .bytes .ensures)
+    ▸ p .number3 .ensures
     ▸ put-as (ap (λ (v : Values). valuesFrom (v .left) (a .s .now) v) (c .before .before .before .of2 .ensures)) (c .before .before .values .ensures)
 
 pub instance-spec : {M : Type 1} → statement M

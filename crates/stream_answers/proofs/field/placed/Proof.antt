@@ -6,11 +6,16 @@ use Rattle.stream_answers.proofs.field.placed.Tie as tie
 
 returns : tie.Need-returns
 returns c =
-    c .before .before .before .before .before .before .before .before .before .before .before .before .before .before .before .before .before .before .before .before .before .before .byte .ensures
-    ▸ c .before .before .before .before .before .before .before .before .before .before .before .before .before .before .before .before .before .before .decimal .ensures
-    ▸ c .before .before .before .before .before .before .before .before .before .before .before .before .before .before .byte2 .ensures
-    ▸ c .before .before .before .before .before .before .before .before .before .before .decimal2 .ensures
-    ▸ c .before .before .before .before .before .before .byte3 .ensures
+    let p = c .before .before .before .before .before .before in
+    let q = p .before .before .before .before in
+    let r = q .before .before .before .before in
+    let u = r .before .before .before .before in
+    let v = u .before .before .before .before in
+    v .byte .ensures
+    ▸ u .decimal .ensures
+    ▸ r .byte2 .ensures
+    ▸ q .decimal2 .ensures
+    ▸ p .byte3 .ensures
     ▸ c .before .before .content .ensures
 
 pub placed-spec : {M : Type 1} → statement M

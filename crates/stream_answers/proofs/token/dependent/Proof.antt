@@ -10,10 +10,16 @@ returns : tie.Need-returns
 returns c = put-as (sym (simp (ne-eqb _ _ (c .if1 .taken)))) put-none
 
 returns-2 : tie.Need-returns-2
-returns-2 c = put-as (sym (simp (eq-eqb _ _ (c .before .before .before .before .before .before .if1 .left), c .before .before .before .before .before .if2 .taken))) (c .before .before .number .ensures)
+returns-2 c =
+    let p = c .before .before .before .before .before in
+    let q = p .before in
+    put-as (sym (simp (eq-eqb _ _ (q .if1 .left), p .if2 .taken))) (c .before .before .number .ensures)
 
 returns-3 : tie.Need-returns-3
-returns-3 c = put-as (sym (simp (eq-eqb _ _ (c .before .before .before .before .before .before .if1 .left), c .before .before .before .before .before .if2 .left))) (c .before .before .text .ensures)
+returns-3 c =
+    let p = c .before .before .before .before .before in
+    let q = p .before in
+    put-as (sym (simp (eq-eqb _ _ (q .if1 .left), p .if2 .left))) (c .before .before .text .ensures)
 
 pub dependent-spec : {M : Type 1} → statement M
 dependent-spec =

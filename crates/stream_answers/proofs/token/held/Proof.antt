@@ -19,13 +19,19 @@ returns-2 c =
 
 returns-3 : tie.Need-returns-3
 returns-3 c =
-    let a = c .before .before .before .before .before .before .before .before .before .before .before .args in
-    put-as (ap bytesField (c .before .before .before .of .ensures) ∙ ap (byHeld (a .s .now) (a .t)) (sym (c .before .before .before .before .before .before .before .h2 .given .1))) (c .before .before .bytes .ensures)
+    let p = c .before .before .before .before .before .before .before in
+    let q = p .before .before .before .before in
+    let a = q .args in
+    put-as
+    (ap bytesField (c .before .before .before .of .ensures) ∙ ap (byHeld (a .s .now) (a .t)) (sym (p .h2 .given .1)))
+    (c .before .before .bytes .ensures)
 
 returns-4 : tie.Need-returns-4
 returns-4 c =
-    let a = c .before .before .before .before .before .before .before .before .before .before .args in
-    put-as (ap (byHeld (a .s .now) (a .t)) (sym (c .before .before .before .before .before .before .h3 .given .1))) (c .before .before .sizeless .ensures)
+    let p = c .before .before .before .before .before .before in
+    let q = p .before .before .before .before in
+    let a = q .args in
+    put-as (ap (byHeld (a .s .now) (a .t)) (sym (p .h3 .given .1))) (c .before .before .sizeless .ensures)
 
 returns-5 : tie.Need-returns-5
 returns-5 c =

@@ -6,10 +6,14 @@ use Rattle.stream_answers.proofs.token.line.Tie as tie
 
 returns : tie.Need-returns
 returns c =
-    c .before .before .before .before .before .before .before .before .before .before .before .before .before .before .before .before .before .before .before .decimal .ensures
-    ▸ c .before .before .before .before .before .before .before .before .before .before .before .before .before .before .before .number .ensures
-    ▸ c .before .before .before .before .before .before .before .before .before .before .number2 .ensures
-    ▸ c .before .before .before .before .before .before .held .ensures
+    let p = c .before .before .before .before .before .before in
+    let q = p .before .before .before .before in
+    let r = q .before .before .before .before .before in
+    let u = r .before .before .before .before in
+    u .decimal .ensures
+    ▸ r .number .ensures
+    ▸ q .number2 .ensures
+    ▸ p .held .ensures
     ▸ c .before .before .byte .ensures
 
 pub line-spec : {M : Type 1} → statement M

@@ -10,7 +10,11 @@ returns : tie.Need-returns
 returns c = put-as (sym (simp (eq-eqb _ _ (c .before .before .before .before .before .if1 .taken)))) (c .before .before .number .ensures)
 
 returns-2 : tie.Need-returns-2
-returns-2 c = put-as (sym (simp (ne-eqb _ _ (c .before .before .before .before .before .before .before .before .before .before .before .if1 .left), eq-eqb _ _ (c .before .before .before .before .before .before .before .before .before .before .if2 .taken)))) (c .before .before .before .before .before .before .before .number2 .ensures ▸ c .before .before .number3 .ensures)
+returns-2 c =
+    let p = c .before .before .before .before .before .before .before in
+    let q = p .before .before .before in
+    let r = q .before in
+    put-as (sym (simp (ne-eqb _ _ (r .if1 .left), eq-eqb _ _ (q .if2 .taken)))) (p .number2 .ensures ▸ c .before .before .number3 .ensures)
 
 returns-3 : tie.Need-returns-3
 returns-3 c = put-as (sym (simp (ne-eqb _ _ (c .before .if1 .left), ne-eqb _ _ (c .if2 .left)))) put-none
