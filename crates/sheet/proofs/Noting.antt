@@ -58,11 +58,12 @@ module _ (s : List ℕ) (end : ℕ) (f : Flags) where
       handed-same at (length s) (stepAt s end f at) (readFrom t s end f) (readFrom u s end f) (step-grows s end f at)
       (λ n l h. enough t u n (omega arith) (omega arith) (omega arith) (omega arith))
 
-  read-is : (at : ℕ) (x : Answer Met) → stepAt s end f at ≡ x → readAt s end f at ≡ handedOn x (readFrom (length s - at) s end f)
+  -- what a walk hands on begins with a step's token
+  pub read-is : (at : ℕ) (x : Answer Met) → stepAt s end f at ≡ x → readAt s end f at ≡ handedOn x (readFrom (length s - at) s end f)
   unfolding readFrom
   read-is at x e = ap (λ (y : Answer Met). handedOn y (readFrom (length s - at) s end f)) e
 
-  read-token : (at n : ℕ) (t : Token) → stepAt s end f at ≡ given (handed t) n → readAt s end f at ≡ t ∷ readAt s end f n
+  pub read-token : (at n : ℕ) (t : Token) → stepAt s end f at ≡ given (handed t) n → readAt s end f at ≡ t ∷ readAt s end f n
   read-token at n t e =
       let h = subst (Grows at (length s)) e (step-grows s end f at) in
       read-is at (given (handed t) n) e

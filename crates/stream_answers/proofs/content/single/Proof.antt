@@ -1,0 +1,14 @@
+-- `single` meets its contract. Assumes nothing.
+use borrow.Author.Needs.{needs}
+use Rattle.print.proofs.Putting.{_▸_}
+use Rattle.stream_answers.proofs.content.single.Statement.{statement}
+use Rattle.stream_answers.proofs.content.single.Tie as tie
+
+returns : tie.Need-returns
+returns c =
+    c .before .before .before .before .before .before .byte .ensures
+    ▸ c .before .before .hex-half .ensures
+
+pub single-spec : {M : Type 1} → statement M
+single-spec =
+    tie.close (tie.spec (λ c κs. search needs) (λ c. search needs) (λ c κs. search needs) (λ c. search needs) returns)

@@ -1,0 +1,5 @@
+-- The definitions that the contracts of `stream_answers` cite.
+pub mod Content
+pub mod Token
+pub mod Walk
+pub mod Modes

@@ -1,0 +1,85 @@
+-- The single instance, the owner table and the C calls. answers.md, modes S, O and C.
+use mathlib.Core.Path.{_≡_}
+use mathlib.Core.List.{List, [], _∷_, _++_}
+use Prim.Native.Nat.{ℕ}
+use lib.Dec.{leb}
+use lib.ListN.{take, drop, replicate}
+use Rattle.cursor.specs.Answer.{pick}
+use Rattle.cursor.specs.Reads.{numberOf}
+use Rattle.cursor.specs.declared.Counted.{Counted}
+use Rattle.cursor.specs.declared.Counted.the-variants as C
+use Rattle.tokens.specs.Single.{singleOf, endsOf}
+use Rattle.tokens.specs.Walk.{Walked, walkOf}
+use Rattle.tokens.specs.declared.Single.{Single}
+use Rattle.tokens.specs.declared.Single.the-variants.{At, Nothing}
+use Rattle.tokens.specs.declared.Ends.{Ends}
+use Rattle.tokens.specs.declared.Ends.the-variants.{Yes, No, Beyond}
+use Rattle.sheet.specs.Sheet.{sheetAnswer, sheetWords}
+use Rattle.body.specs.Verdict.{Answered}
+use Rattle.doortumble.specs.Calls.{packedOf, OwnersPacked}
+use Rattle.stream_answers.specs.declared.Asked.{Asked}
+use Rattle.print.specs.Text.{ascii, each, hexWord, spacedWord, spacedHalf, lineOf, refusedOf}
+
+-- "`single` offset or `single none`"
+abbrev pub singleText : Single → List ℕ
+singleText (At n) = lineOf (ascii "single") (n ∷ [])
+singleText Nothing = ascii "single none\n"
+
+-- "`ends yes`, `ends no` or `ends none`"
+abbrev pub endsText : Ends → List ℕ
+endsText Yes = ascii "ends yes\n"
+endsText No = ascii "ends no\n"
+endsText Beyond = ascii "ends none\n"
+
+-- S: "data is the stream, `start` is how much was consumed"
+abbrev pub singleLines : List ℕ → ℕ → List ℕ
+singleLines s consumed = singleText (singleOf s) ++ endsText (endsOf s consumed)
+
+-- the walk that is asked for
+abbrev pub askedWalk : List ℕ → Asked → Walked
+askedWalk s a = walkOf s (a .start) (a .length) (a .flags)
+
+-- O: "`owners` and the words, or `refused` number place": the words of as many tokens as the answer counts
+abbrev pub ownersText : Counted → List ℕ → List ℕ
+ownersText (C.Count n) left = lineOf (ascii "owners") (take n left)
+ownersText (C.Refused r) left = refusedOf r
+
+-- the text of an answer that the owner table's definition allows, with what is left in a table that has a word for each token there can be
+pub record OwnersSaid (w : Walked) (text : List ℕ) : Type 0 where
+  pub answer : Counted
+  pub left : List ℕ
+  pub answered : Answered (replicate 65536 0) left w answer
+  pub is : text ≡ ownersText answer left
+
+-- C: "Data is four bytes of room (u32; more than 65,536 counts as that: how many words are lent, each first set to all ones) and then the
+-- stream"
+abbrev pub roomIn : List ℕ → ℕ
+roomIn bytes = numberOf bytes 0 4
+
+abbrev pub streamOf : List ℕ → List ℕ
+streamOf bytes = drop 4 bytes
+
+abbrev pub lentWords : List ℕ → ℕ → List ℕ
+lentWords bytes ones = replicate (pick (leb (roomIn bytes) 65536) (roomIn bytes) 65536) ones
+
+-- "`answer` and the packed word in 16 hex digits"
+unfoldable pub answerText : ℕ → List ℕ
+answerText word = ascii "answer " ++ hexWord word ++ ascii "\n"
+
+-- "`words` and the lent words in hex (16 or 8 digits each)"
+abbrev pub wordsText : List ℕ → List ℕ
+wordsText words = ascii "words" ++ each spacedWord words ++ ascii "\n"
+
+abbrev pub tableText : List ℕ → List ℕ
+tableText words = ascii "words" ++ each spacedHalf words ++ ascii "\n"
+
+-- the sheet call, on a walk and lent words
+abbrev pub sheetText : Walked → List ℕ → List ℕ
+sheetText w lent = answerText (packedOf (sheetAnswer w lent)) ++ wordsText (sheetWords w lent)
+
+-- the owner call: the text of an answer word that its definition allows, with what is left in the lent words
+pub record OwnersCalled (w : Walked) (lent text : List ℕ) : Type 0 where
+  pub word : ℕ
+  pub left : List ℕ
+  pub packed : OwnersPacked w lent left word
+  pub is : text ≡ answerText word ++ tableText left

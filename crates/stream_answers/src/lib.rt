@@ -1,0 +1,103 @@
+// The answers of the batch's modes that read a token stream: the walk (T), the single instance (S), the owner table (O) and the C calls
+// (C). Each function puts its lines into a lent buffer, behind what is there.
+mod call;
+mod content;
+mod field;
+mod token;
+
+use cursor::Counted;
+use tokens::Ends;
+use tokens::Flags;
+use tokens::Single;
+ghost use Prim.Native.Nat.{_-_, _^_};
+ghost use Rattle.print.specs.Text.{ascii, Puts, PutsSome, lineOf};
+ghost use Rattle.stream_answers.specs.Walk.{walkText};
+ghost use Rattle.stream_answers.specs.Modes.{askedWalk, singleText, endsText, singleLines, OwnersSaid, sheetText, OwnersCalled, lentWords, streamOf};
+
+// What of a stream is asked for, and how it is read.
+pub struct Asked {
+    pub start: u32,
+    pub length: u32,
+    pub flags: Flags,
+}
+
+// A C call's data begins with how many words are lent, in so many bytes.
+pub const ROOM: usize = 4;
+
+// The most words that are lent.
+const MOST: usize = 65536;
+
+// Mode T: the tokens, one a line, then how many they are, or the refusal that ends them. A stream and a start that the walk refuses are
+// told by a walk over no bytes.
+pub fn walk(out: &mut [u8], at: usize, s: &[u8], asked: Asked) -> usize
+    ensures { λ r. ⌜ Puts (walkText (now (s .entry)) (asked .start) (asked .length) (asked .flags)) (now (out .entry)) at (now (out .exit)) r ⌝ }
+{
+    let from = asked.start as usize;
+    match tokens::count(s, asked.start, 0, asked.flags) {
+        Counted::Refused(r) => print::refused(out, at, r),
+        Counted::Count(_) => {
+            token::lines(out, at, s, from, from + asked.length as usize, asked.flags)
+        }
+    }
+}
+
+// Mode S: whether a stream is a single instance, and whether it ends after what was consumed.
+pub fn single(out: &mut [u8], at: usize, s: &[u8], consumed: usize) -> usize
+    ensures { λ r. ⌜ Puts (singleLines (now (s .entry)) consumed) (now (out .entry)) at (now (out .exit)) r ⌝ }
+{
+    let a = start_line(out, at, tokens::single_instance_offset(s));
+    ends_line(out, a, tokens::ends_stream(s, consumed))
+}
+
+fn start_line(out: &mut [u8], at: usize, found: Single) -> usize
+    ensures { λ r. ⌜ Puts (singleText found) (now (out .entry)) at (now (out .exit)) r ⌝ }
+{
+    match found {
+        Single::At(n) => print::line(out, at, b"single", &[n as u64]),
+        Single::Nothing => print::text(out, at, b"single none\n"),
+    }
+}
+
+fn ends_line(out: &mut [u8], at: usize, e: Ends) -> usize
+    ensures { λ r. ⌜ Puts (endsText e) (now (out .entry)) at (now (out .exit)) r ⌝ }
+{
+    match e {
+        Ends::Yes => print::text(out, at, b"ends yes\n"),
+        Ends::No => print::text(out, at, b"ends no\n"),
+        Ends::Beyond => print::text(out, at, b"ends none\n"),
+    }
+}
+
+// Mode O: the owner table of a stream, or why it is no body.
+pub fn owners(out: &mut [u8], at: usize, s: &[u8], asked: Asked) -> usize
+    ensures { λ r. ⌜ PutsSome (OwnersSaid (askedWalk (now (s .entry)) asked)) (now (out .entry)) at (now (out .exit)) r ⌝ }
+{
+    let mut table = [0u32; MOST];
+    match body::owners(s, asked.start, asked.length, asked.flags, &mut table) {
+        Counted::Count(n) => owner_line(out, at, &table[..n]),
+        Counted::Refused(r) => print::refused(out, at, r),
+    }
+}
+
+fn owner_line(out: &mut [u8], at: usize, words: &[u32]) -> usize
+    ensures { λ r. ⌜ Puts (lineOf (ascii "owners") (now (words .entry))) (now (out .entry)) at (now (out .exit)) r ⌝ }
+{
+    let a = print::text(out, at, b"owners");
+    let b = print::halves(out, a, words);
+    print::byte(out, b, b'\n')
+}
+
+// Mode C: what the sheet call and the owner call answer on lent words, and what they leave there. Each word is first set to all ones.
+pub fn sheet_call(out: &mut [u8], at: usize, bytes: &[u8], asked: Asked) -> usize
+    ensures { λ r. ⌜ Puts (sheetText (askedWalk (streamOf (now (bytes .entry))) asked) (lentWords (now (bytes .entry)) (2 ^ 64 - 1))) (now (out .entry)) at (now (out .exit)) r ⌝ }
+{
+    let mut words = [0xFFFF_FFFF_FFFF_FFFFu64; MOST];
+    call::sheet_of(out, at, bytes, asked, &mut words)
+}
+
+pub fn owners_call(out: &mut [u8], at: usize, bytes: &[u8], asked: Asked) -> usize
+    ensures { λ r. ⌜ PutsSome (OwnersCalled (askedWalk (streamOf (now (bytes .entry))) asked) (lentWords (now (bytes .entry)) (2 ^ 32 - 1))) (now (out .entry)) at (now (out .exit)) r ⌝ }
+{
+    let mut words = [0xFFFF_FFFFu32; MOST];
+    call::owners_of(out, at, bytes, asked, &mut words)
+}
