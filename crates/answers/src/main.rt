@@ -1,20 +1,9 @@
-// Answers a batch of cases: cases come on standard input, their answers go to standard output. Each mode has a file of its own; this one
-// reads the cases and finds the mode. No rule of the format stands in this program: it reads, asks the libraries, and prints.
-mod calls;
-mod content;
-mod header;
-mod item;
-mod one_record;
-mod owners;
-mod print;
-mod single;
-mod step;
-mod token;
-mod walk;
-
-use calls::Asked;
+// Answers a batch of cases (docs/ANSWERS.md): cases come on standard input, their answers go to standard output. What is answered stands in
+// `chunk_answers` and `stream_answers`; this program reads the cases and finds the mode. No rule of the format stands here.
 use cursor::Part;
 use libc::STDIN_FILENO;
+use libc::STDOUT_FILENO;
+use stream_answers::Asked;
 use tokens::Flags;
 
 // The head of a case: mode, flags, start, length, and how much data follows.
@@ -22,6 +11,12 @@ const HEAD: usize = 14;
 
 // The most data of a case.
 const MOST_DATA: usize = 131072;
+
+// The output's buffer, and how full it is when it is written out. The longest answer, the 65,536 words of a sheet in mode C, has some
+// 1,114,000 bytes, so that it always finds room.
+const OUTPUT: usize = 2097152;
+
+const FULL: usize = 524288;
 
 // A case, without its data.
 struct Case {
@@ -40,7 +35,7 @@ enum Turn {
 
 fn main() {
     let mut bytes = [0u8; MOST_DATA];
-    let mut out = [0u8; 65536];
+    let mut out = [0u8; OUTPUT];
     run(&mut out, &mut bytes);
 }
 
@@ -52,13 +47,19 @@ fn run(out: &mut [u8], bytes: &mut [u8]) {
         match one_case(out, at, bytes) {
             Turn::GoesOn(next) => at = next,
             Turn::Over(end) => {
-                print::flush(out, end);
+                write(out, end);
                 return;
             }
         }
         turns -= 1;
     }
-    print::flush(out, at);
+    write(out, at);
+}
+
+// Writes out what the buffer holds.
+fn write(out: &[u8], at: usize) {
+    let filled = Part { start: 0, len: at };
+    io::write_all(STDOUT_FILENO, filled.of(out));
 }
 
 // One case: its head is read here.
@@ -93,9 +94,22 @@ fn answered(out: &mut [u8], at: usize, case: Case, bytes: &mut [u8]) -> Turn {
     if is_read(n, bytes) {
         let part = Part { start: 0, len: n };
         let end = answer(out, at, case, part.of(bytes));
-        return Turn::GoesOn(print::text(out, end, b".\n"));
+        let after = print::text(out, end, b".\n");
+        return kept(out, after);
     }
     bad(out, at)
+}
+
+// A buffer that is full has lost something, and ends the run; one that is half full is written out.
+fn kept(out: &mut [u8], at: usize) -> Turn {
+    if out.len() <= at {
+        return bad(out, 0);
+    }
+    if FULL <= at {
+        write(out, at);
+        return Turn::GoesOn(0);
+    }
+    Turn::GoesOn(at)
 }
 
 // Whether there is room for n bytes, and the input has them.
@@ -117,11 +131,11 @@ fn least_data(mode: u8) -> usize {
         b'H' => 0,
         b'R' => 0,
         b'W' => 0,
-        b'P' => step::STATE,
+        b'P' => chunk_answers::STATE,
         b'T' => 0,
         b'S' => 0,
         b'O' => 0,
-        b'C' => calls::ROOM,
+        b'C' => stream_answers::ROOM,
         _ => MOST_DATA + 1,
     }
 }
@@ -131,49 +145,41 @@ fn answer(out: &mut [u8], at: usize, case: Case, bytes: &[u8]) -> usize {
     let mode = case.mode;
     let first = case.flags % 2 == 1;
     match mode {
-        b'H' => header::answer(out, at, bytes),
-        b'R' => one_record::answer(out, at, bytes, case.start as usize, first),
-        b'W' => walk::answer(out, at, bytes, first),
-        b'P' => step::answer(out, at, bytes),
-        b'T' => token::answer(
-            out,
-            at,
-            bytes,
-            case.start,
-            case.length,
-            walk_flags(case.flags),
-        ),
-        b'S' => single::answer(out, at, bytes, case.start as usize),
-        b'O' => owners::answer(
-            out,
-            at,
-            bytes,
-            case.start,
-            case.length,
-            walk_flags(case.flags),
-        ),
-        b'C' => called(out, at, case, bytes),
-        _ => at,
+        b'H' => chunk_answers::header(out, at, bytes),
+        b'R' => chunk_answers::record(out, at, bytes, case.start as usize, first),
+        b'W' => chunk_answers::walk(out, at, bytes, first),
+        b'P' => chunk_answers::step(out, at, bytes),
+        b'S' => stream_answers::single(out, at, bytes, case.start as usize),
+        _ => on_stream(out, at, case, bytes),
     }
 }
 
-// A C call: flag 4, the owner table's; else the sheet's.
-fn called(out: &mut [u8], at: usize, case: Case, bytes: &[u8]) -> usize {
-    let asked = Asked {
+// The modes that ask for a part of a stream. Of mode C, flag 4 is the owner call, else the sheet call.
+fn on_stream(out: &mut [u8], at: usize, case: Case, bytes: &[u8]) -> usize {
+    let mode = case.mode;
+    let asked = asked_of(case);
+    match mode {
+        b'T' => stream_answers::walk(out, at, bytes, asked),
+        b'O' => stream_answers::owners(out, at, bytes, asked),
+        _ => called(out, at, bytes, asked, case.flags / 4 % 2 == 1),
+    }
+}
+
+fn called(out: &mut [u8], at: usize, bytes: &[u8], asked: Asked, owners: bool) -> usize {
+    if owners {
+        return stream_answers::owners_call(out, at, bytes, asked);
+    }
+    stream_answers::sheet_call(out, at, bytes, asked)
+}
+
+// How a stream is read: flag 1, dependencies carried; flag 2, names inline.
+fn asked_of(case: Case) -> Asked {
+    Asked {
         start: case.start,
         length: case.length,
-        flags: walk_flags(case.flags),
-    };
-    if case.flags / 4 % 2 == 1 {
-        return calls::owners(out, at, bytes, asked);
-    }
-    calls::sheet(out, at, bytes, asked)
-}
-
-// How a token stream is read: flag 1, dependencies carried; flag 2, names inline.
-fn walk_flags(flags: u8) -> Flags {
-    Flags {
-        dependencies: flags % 2 == 1,
-        inline: flags / 2 % 2 == 1,
+        flags: Flags {
+            dependencies: case.flags % 2 == 1,
+            inline: case.flags / 2 % 2 == 1,
+        },
     }
 }

@@ -1,4 +1,4 @@
--- Mode R of answers.md: one record, and the resync offset after it.
+-- Mode R of docs/ANSWERS.md: one record, and the resync offset after it.
 use mathlib.Core.Path.{_≡_}
 use mathlib.Core.Bool.{Bool}
 use mathlib.Core.List.{List, [], _∷_, _++_}

@@ -1,4 +1,4 @@
--- Mode P of answers.md: one step of the walk from any state.
+-- Mode P of docs/ANSWERS.md: one step of the walk from any state.
 use mathlib.Core.Path.{_≡_}
 use mathlib.Core.Bool.{Bool, not}
 use mathlib.Core.List.{List, [], _∷_, _++_}

@@ -1,4 +1,4 @@
--- How a value is written: the field type:size:start:next:content of answers.md, mode T.
+-- How a value is written: the field type:size:start:next:content of docs/ANSWERS.md, mode T.
 use mathlib.Core.List.{List, [], _++_}
 use Prim.Native.Nat.{ℕ, _+_, _%_, _^_}
 use lib.IntN.{ℤ, pos, negsuc}

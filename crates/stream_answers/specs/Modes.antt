@@ -1,4 +1,4 @@
--- The single instance, the owner table and the C calls. answers.md, modes S, O and C.
+-- The single instance, the owner table and the C calls. docs/ANSWERS.md, modes S, O and C.
 use mathlib.Core.Path.{_≡_}
 use mathlib.Core.List.{List, [], _∷_, _++_}
 use Prim.Native.Nat.{ℕ}

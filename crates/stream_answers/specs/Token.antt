@@ -1,4 +1,4 @@
--- A token's line: "place length kind, then by kind". answers.md, mode T.
+-- A token's line: "place length kind, then by kind". docs/ANSWERS.md, mode T.
 use mathlib.Core.List.{List, [], _++_}
 use Prim.Native.Nat.{ℕ, zero, suc, _+_}
 use lib.Dec.{eqb}

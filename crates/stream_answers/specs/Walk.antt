@@ -1,4 +1,4 @@
--- The token walk's lines. answers.md, mode T.
+-- The token walk's lines. docs/ANSWERS.md, mode T.
 use mathlib.Core.List.{List, [], _∷_, _++_}
 use Prim.Native.Nat.{ℕ, _+_}
 use lib.Dec.{leb}
