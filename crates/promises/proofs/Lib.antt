@@ -11,6 +11,7 @@ pub mod OfSheet
 pub mod OfBody
 pub mod OfDoortumble
 pub mod OfPrint
+pub mod OfAnswers
 pub mod Resume
 pub mod Samples
 pub mod Calls

@@ -1,0 +1,87 @@
+-- `chunk_answers`, `stream_answers` and `listing_text`: each call allows one answer and one content of the lent buffer. Assumes nothing.
+use mathlib.Core.Path.{_≡_, refl, sym, ap, _∙_}
+use mathlib.Core.List.{List, _++_}
+use Prim.Native.Nat.{ℕ}
+use contract.Lifetimes.{Lfts}
+use borrow.Fn.Kinds.{Dens, resT, endedOf}
+use denote.Triple.Clauses.{AtExit}
+use Rattle.cursor.specs.declared.Counted.{Counted}
+use Rattle.tokens.specs.Walk.{Walked}
+use Rattle.body.proofs.One.{one-answer}
+use Rattle.doortumble.specs.Calls.{packedOf}
+use Rattle.print.proofs.One.{puts-one, some-one}
+use Rattle.chunk_answers.proofs.One.{record-one, walk-one, step-text-one}
+use Rattle.stream_answers.specs.Modes.{OwnersSaid, OwnersCalled, ownersText, answerText, tableText}
+use Rattle.listing_text.proofs.One.{listed-one}
+use Rattle.chunk_answers.proofs.header.Kinds as headerK
+use Rattle.chunk_answers.proofs.header.Reads as headerR
+use Rattle.chunk_answers.proofs.record.Kinds as record-atK
+use Rattle.chunk_answers.proofs.record.Reads as record-atR
+use Rattle.chunk_answers.proofs.walk.Kinds as whole-walkK
+use Rattle.chunk_answers.proofs.walk.Reads as whole-walkR
+use Rattle.chunk_answers.proofs.step.Kinds as one-stepK
+use Rattle.chunk_answers.proofs.step.Reads as one-stepR
+use Rattle.stream_answers.proofs.walk.Kinds as tokensK
+use Rattle.stream_answers.proofs.walk.Reads as tokensR
+use Rattle.stream_answers.proofs.single.Kinds as singleK
+use Rattle.stream_answers.proofs.single.Reads as singleR
+use Rattle.stream_answers.proofs.owners.Kinds as ownersK
+use Rattle.stream_answers.proofs.owners.Reads as ownersR
+use Rattle.stream_answers.proofs.sheet_call.Kinds as sheet-callK
+use Rattle.stream_answers.proofs.sheet_call.Reads as sheet-callR
+use Rattle.stream_answers.proofs.owners_call.Kinds as owners-callK
+use Rattle.stream_answers.proofs.owners_call.Reads as owners-callR
+use Rattle.listing_text.proofs.put.Kinds as listingK
+use Rattle.listing_text.proofs.put.Reads as listingR
+
+-- the owner table's text, and the owner call's: the tokens have one answer and leave one table
+said-one : (w : Walked) (t u : List ℕ) → OwnersSaid w t → OwnersSaid w u → t ≡ u
+said-one w t u p q =
+    let e = one-answer _ _ _ (p .answered) (q .answered) in
+    p .is ∙ ap (λ (c : Counted). ownersText c (p .left)) (e .0) ∙ ap (ownersText (q .answer)) (e .1) ∙ sym (q .is)
+
+called-one : (w : Walked) (lent t u : List ℕ) → OwnersCalled w lent t → OwnersCalled w lent u → t ≡ u
+called-one w lent t u p q =
+    let e = one-answer _ _ _ (p .packed .1 .1) (q .packed .1 .1) in
+    let word : p .word ≡ q .word = p .packed .1 .0 ∙ ap packedOf (e .0) ∙ sym (q .packed .1 .0) in
+    p .is ∙ ap (λ (n : ℕ). answerText n ++ tableText (p .left)) word ∙ ap (λ (l : List ℕ). answerText (q .word) ++ tableText l) (e .1) ∙ sym (q .is)
+
+pub header : (κs : Lfts 2) (a : Dens κs headerK.ps) (x y : resT headerK.r κs .Denot) (s t : AtExit (endedOf 2 headerK.ps headerK.r) κs)
+    → headerR.Post κs a x s → headerR.Post κs a y t → (s .0 .now ≡ t .0 .now) × (x ≡ y)
+header κs a x y s t p q = puts-one _ _ _ _ _ _ _ _ refl p q
+
+pub record-at : (κs : Lfts 2) (a : Dens κs record-atK.ps) (x y : resT record-atK.r κs .Denot) (s t : AtExit (endedOf 2 record-atK.ps record-atK.r) κs)
+    → record-atR.Post κs a x s → record-atR.Post κs a y t → (s .0 .now ≡ t .0 .now) × (x ≡ y)
+record-at κs a x y s t p q = some-one _ _ _ _ _ _ _ (λ t u. record-one _ _ _ t u) p q
+
+pub whole-walk : (κs : Lfts 2) (a : Dens κs whole-walkK.ps) (x y : resT whole-walkK.r κs .Denot) (s t : AtExit (endedOf 2 whole-walkK.ps whole-walkK.r) κs)
+    → whole-walkR.Post κs a x s → whole-walkR.Post κs a y t → (s .0 .now ≡ t .0 .now) × (x ≡ y)
+whole-walk κs a x y s t p q = some-one _ _ _ _ _ _ _ (λ t u. walk-one _ _ t u) p q
+
+pub one-step : (κs : Lfts 2) (a : Dens κs one-stepK.ps) (x y : resT one-stepK.r κs .Denot) (s t : AtExit (endedOf 2 one-stepK.ps one-stepK.r) κs)
+    → one-stepR.Post κs a x s → one-stepR.Post κs a y t → (s .0 .now ≡ t .0 .now) × (x ≡ y)
+one-step κs a x y s t p q = some-one _ _ _ _ _ _ _ (λ u v. step-text-one (a .1 .1 .0 .now) u v) p q
+
+pub tokens : (κs : Lfts 2) (a : Dens κs tokensK.ps) (x y : resT tokensK.r κs .Denot) (s t : AtExit (endedOf 2 tokensK.ps tokensK.r) κs)
+    → tokensR.Post κs a x s → tokensR.Post κs a y t → (s .0 .now ≡ t .0 .now) × (x ≡ y)
+tokens κs a x y s t p q = puts-one _ _ _ _ _ _ _ _ refl p q
+
+pub single : (κs : Lfts 2) (a : Dens κs singleK.ps) (x y : resT singleK.r κs .Denot) (s t : AtExit (endedOf 2 singleK.ps singleK.r) κs)
+    → singleR.Post κs a x s → singleR.Post κs a y t → (s .0 .now ≡ t .0 .now) × (x ≡ y)
+single κs a x y s t p q = puts-one _ _ _ _ _ _ _ _ refl p q
+
+pub owners : (κs : Lfts 2) (a : Dens κs ownersK.ps) (x y : resT ownersK.r κs .Denot) (s t : AtExit (endedOf 2 ownersK.ps ownersK.r) κs)
+    → ownersR.Post κs a x s → ownersR.Post κs a y t → (s .0 .now ≡ t .0 .now) × (x ≡ y)
+owners κs a x y s t p q = some-one _ _ _ _ _ _ _ (λ t u. said-one _ t u) p q
+
+pub sheet-call : (κs : Lfts 2) (a : Dens κs sheet-callK.ps) (x y : resT sheet-callK.r κs .Denot) (s t : AtExit (endedOf 2 sheet-callK.ps sheet-callK.r) κs)
+    → sheet-callR.Post κs a x s → sheet-callR.Post κs a y t → (s .0 .now ≡ t .0 .now) × (x ≡ y)
+sheet-call κs a x y s t p q = puts-one _ _ _ _ _ _ _ _ refl p q
+
+pub owners-call : (κs : Lfts 2) (a : Dens κs owners-callK.ps) (x y : resT owners-callK.r κs .Denot) (s t : AtExit (endedOf 2 owners-callK.ps owners-callK.r) κs)
+    → owners-callR.Post κs a x s → owners-callR.Post κs a y t → (s .0 .now ≡ t .0 .now) × (x ≡ y)
+owners-call κs a x y s t p q = some-one _ _ _ _ _ _ _ (λ t u. called-one _ _ t u) p q
+
+pub listing : (κs : Lfts 2) (a : Dens κs listingK.ps) (x y : resT listingK.r κs .Denot) (s t : AtExit (endedOf 2 listingK.ps listingK.r) κs)
+    → listingR.Post κs a x s → listingR.Post κs a y t → (s .0 .now ≡ t .0 .now) × (x ≡ y)
+listing κs a x y s t p q = some-one _ _ _ _ _ _ _ (λ t u. listed-one _ t u) p q
