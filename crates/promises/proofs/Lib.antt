@@ -14,7 +14,6 @@ pub mod OfPrint
 pub mod OfAnswers
 pub mod Resume
 pub mod Samples
-pub mod Calls
 pub mod Fits
 pub mod FitsValue
 pub mod FitsWalk

@@ -1,4 +1,3 @@
 -- Document 01's samples that are to be proved.
 pub mod Samples
-pub mod Calls
 pub mod Packed

@@ -22,6 +22,8 @@ use Rattle.record.specs.Chunk.{fieldsAt, stringsOf, checksumAt}
 use Rattle.record.specs.Record.{recordAt, payloadOf}
 use Rattle.chunk.specs.Walk.{startOf, ResyncAfter}
 use Rattle.chunk.specs.Listing.{Lists}
+use Rattle.record.specs.declared.Record.{Record}
+use Rattle.chunk.specs.declared.Item.the-variants as I
 use Rattle.chunk.specs.declared.Place.the-variants as P
 use Rattle.chunk.specs.declared.Resync.the-variants as R
 use Rattle.chunk.specs.declared.Walk.{Walk}
@@ -29,13 +31,22 @@ use Rattle.tokens.specs.Instance.{valuesOf, nextOf}
 use Rattle.tokens.specs.Single.{singleOf, endsOf}
 use Rattle.tokens.specs.Walk.{walkOf, countedOf}
 use Rattle.tokens.specs.declared.Ends.the-variants as E
+use Rattle.tokens.specs.declared.Flags.{Flags}
 use Rattle.tokens.specs.declared.NextValue.the-variants as N
 use Rattle.tokens.specs.declared.Single.the-variants as S
 use Rattle.tokens.specs.declared.Values.{Values}
 use Rattle.doortumble.specs.Calls.{packedOf}
 use Rattle.checksum_call.specs.Said.{saidOf}
 use Rattle.print.specs.Text.{ascii, page, put, each, decimalOf, spacedNumber, hexHalf, spacedWord, hexOf, lineOf, refusedOf}
+use Rattle.chunk_answers.specs.Header.{headerText, checksumLine}
+use Rattle.chunk_answers.specs.Item.{itemLine}
+use Rattle.chunk_answers.specs.Record.{recordLine, resyncLine}
+use Rattle.chunk_answers.specs.Step.{stateLine, StepText}
+use Rattle.chunk_answers.specs.Walk.{WalkText}
+use Rattle.stream_answers.specs.Modes.{singleLines, ownersText, answerText, tableText, sheetText}
+use Rattle.stream_answers.specs.Walk.{walkText}
+use Rattle.listing_text.specs.Listing.{listingOf}
 use Rattle.promises.specs.Samples.{emptyElement, anInstance, whole, walkOn}
 
 abbrev part : ℕ → ℕ → Part
 part start len = record { start = start; len = len }
@@ -45,6 +56,12 @@ view start len = record { part = part start len }
 
 abbrev three : List ℕ
 three = 1 ∷ 2 ∷ 3 ∷ []
+
+abbrev recordAt7 : ℕ → Record
+recordAt7 offset = record { offset = offset; size = 28; id = 7; time = 0 }
+
+abbrev plainly : Flags
+plainly = record { dependencies = false; inline = false }
 
 pub record Calls : Type 0 where
   -- `u8` to `u64`: three bytes are no number of four; 3, where the read starts
@@ -130,3 +147,27 @@ pub record Calls : Type 0 where
   -- `line`, `refused`
   pub line : lineOf (ascii "live") (512 ∷ []) ≡ ascii "live 512\n"
   pub refusal : refusedOf (refusalOf 4 0) ≡ ascii "refused 4 0\n"
+  -- `chunk_answers::header`
+  pub no-header : headerText three ≡ ascii "refused 1 0\n"
+  pub wrong-checksum : checksumLine (given false 512) ≡ ascii "checksum no\n"
+  -- `chunk_answers::record`: size, ID, FILETIME, where the payload starts, and how long it is
+  pub record-line : recordLine three (given (recordAt7 512) 540) ≡ ascii "record 28 7 0 536 0\n"
+  pub no-resync : resyncLine (R.Refused (refusalOf 1 0)) ≡ []
+  -- `chunk_answers::walk`: a line an answer; a refused chunk has no `done`
+  pub live-line : itemLine three (I.Live (recordAt7 512)) ≡ ascii "live 512 28 7 0 536 0\n"
+  pub no-walk : WalkText three true (ascii "refused 1 0\n")
+  -- `chunk_answers::step`: the state that came back; nothing where the data is no state
+  pub state-line : stateLine (record { place = P.Over; from = 0; to = 9; recover = true }) ≡ ascii "state 0 0 0 9 1\n"
+  pub no-state : StepText three []
+  -- `stream_answers::walk`
+  pub open-line : walkText emptyElement 0 11 plainly ≡ ascii "0 9 2 512 -\n9 1 4\nok 2\n"
+  pub value-line : walkText (anInstance 2 0x08 (0x2A ∷ 0 ∷ 0 ∷ 0 ∷ [])) 0 22 plainly ≡ ascii "0 22 1 7 512 - 1 08:2:18:22:u42\nok 1\n"
+  -- `stream_answers::single`
+  pub single-lines : singleLines (0x0C ∷ []) 1 ≡ ascii "single 1\nends yes\n"
+  -- `stream_answers::owners`: as many words as tokens
+  pub owners-line : ownersText (C.Count 2) (0 ∷ 1 ∷ 9 ∷ []) ≡ ascii "owners 0 1\n"
+  -- `stream_answers::sheet_call`, `owners_call`: the answer's word, and all words that were lent
+  pub sheet-call : sheetText (walkOn (whole emptyElement)) (9 ∷ []) ≡ ascii "answer 9000000000000002\nwords 0000000000000009\n"
+  pub owners-call : answerText (packedOf (C.Count 2)) ++ tableText (0 ∷ 1 ∷ 9 ∷ []) ≡ ascii "answer 0000000000000002\nwords 00000000 00000001 00000009\n"
+  -- `listing_text::put`
+  pub listing : listingOf (I.Live (recordAt7 512) ∷ I.Refused (refusalOf 4 600) ∷ []) ≡ ascii "item offset size id\nlive 512 28 7\nrefused 600 4 0\ndone 1 0 1\n"

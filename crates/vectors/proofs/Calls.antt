@@ -12,11 +12,16 @@ use Rattle.tokens.specs.Instance.{tableAt, valuesAt}
 use Rattle.tokens.specs.Single.{singleOf, endsOf}
 use Rattle.tokens.specs.Token.{smallAt, textsAt, namesAt, otherAt}
 use Rattle.tokens.specs.Walk.{turnAt, stepFrom, walkFrom, walkOf}
+use Rattle.sheet.specs.Sheet.{readFrom}
+use Rattle.stream_answers.specs.Modes.{answerText}
+use Rattle.stream_answers.specs.Token.{valuesFrom}
+use Rattle.stream_answers.specs.Walk.{tokensText}
+use Rattle.listing_text.specs.Listing.{itemLines, count}
 use Rattle.print.specs.Text.{put, each, decimalIn}
-use Rattle.promises.specs.Calls.{Calls}
+use Rattle.vectors.specs.Calls.{Calls}
 
 pub calls : Calls
-unfolding little startsWith arrayAt unitsOf beforeZero hashFrom among knownCode widthOf bitsOf realOf unsignedOf decodedOf sizedAt unsizedAt fieldsAt offsetsAt plainAt strictAt payloadOf tableAt valuesAt singleOf endsOf smallAt textsAt namesAt otherAt turnAt stepFrom walkFrom walkOf put each decimalIn
+unfolding little startsWith arrayAt unitsOf beforeZero hashFrom among knownCode widthOf bitsOf realOf unsignedOf decodedOf sizedAt unsizedAt fieldsAt offsetsAt plainAt strictAt payloadOf tableAt valuesAt singleOf endsOf smallAt textsAt namesAt otherAt turnAt stepFrom walkFrom walkOf put each decimalIn readFrom valuesFrom tokensText answerText itemLines count
 calls =
     record {
       read = refl;
@@ -67,4 +72,19 @@ calls =
       no-bytes = refl;
       line = refl;
       refusal = refl;
+      no-header = refl;
+      wrong-checksum = refl;
+      record-line = refl;
+      no-resync = refl;
+      live-line = refl;
+      no-walk = refl;
+      state-line = refl;
+      no-state = refl;
+      open-line = refl;
+      value-line = refl;
+      single-lines = refl;
+      owners-line = refl;
+      sheet-call = refl;
+      owners-call = refl;
+      listing = refl;
     }

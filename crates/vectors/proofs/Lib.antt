@@ -1,0 +1,2 @@
+-- That it does.
+pub mod Calls

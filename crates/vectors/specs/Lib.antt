@@ -1,0 +1,2 @@
+-- What each call answers on a small input.
+pub mod Calls

@@ -1,0 +1,1 @@
+// No code: what each call answers on a small input, in specs/.
