@@ -16,21 +16,10 @@ use Rattle.chunk.specs.declared.Stepped.{Stepped}
 use Rattle.chunk.proofs.Order.{Ordered}
 use Rattle.chunk.proofs.Whole.{start-ordered}
 use Rattle.chunk.proofs.Counting.{ordered-on, runs-none, runs-more}
-use Rattle.print.specs.Text.{ascii, Puts, PutsSome, refusedOf}
-use Rattle.print.proofs.Putting.{_▸_, put-none, put-as}
+use Rattle.print.specs.Text.{ascii, Puts, PutsSome, each, refusedOf}
+use Rattle.print.proofs.Putting.{_▸_, put-none, put-as, each-more}
 use Rattle.chunk_answers.specs.Item.{itemLine}
 use Rattle.chunk_answers.specs.Walk.{itemLines, Walked, walkOn, WalkText, HasHeader}
-
-lines-append : (s : List ℕ) (xs ys : List Item) → itemLines s (xs ++ ys) ≡ itemLines s xs ++ itemLines s ys
-unfolding itemLines
-lines-append s [] ys = refl
-lines-append s (i ∷ xs) ys =
-    ap (λ (l : List ℕ). itemLine s i ++ l) (lines-append s xs ys) ∙ sym (append-assoc (itemLine s i) (itemLines s xs) (itemLines s ys))
-
--- one line more
-lines-more : (s : List ℕ) (xs : List Item) (i : Item) → itemLines s xs ++ itemLine s i ≡ itemLines s (xs ++ (i ∷ []))
-unfolding itemLines
-lines-more s xs i = sym (lines-append s xs (i ∷ []) ∙ ap (λ (l : List ℕ). itemLines s xs ++ l) (append-nil (itemLine s i)))
 
 -- the state w is reached, and the lines of the answers on the way are put
 pub record Going (s : List ℕ) (first : Walk) (lent : List ℕ) (at : ℕ) (w : Walk) (out : List ℕ) (end : ℕ) : Type 0 where
@@ -41,7 +30,7 @@ pub record Going (s : List ℕ) (first : Walk) (lent : List ℕ) (at : ℕ) (w :
   pub puts : Puts (itemLines s done) lent at out end
 
 pub going-start : (s : List ℕ) (recover : Bool) (lent : List ℕ) (at : ℕ) → Going s (startOf recover) lent at (startOf recover) lent at
-unfolding itemLines
+unfolding each
 going-start s recover lent at =
     record { ordered = start-ordered recover; kept = refl; done = []; back = λ items r. r; puts = put-none }
 
@@ -56,7 +45,7 @@ module _ (s : List ℕ) (header : HasHeader s) {first : Walk} {lent : List ℕ} 
         kept = k ∙ g .kept;
         done = g .done ++ (i ∷ []);
         back = λ items r. subst (Runs s first) (sym (append-assoc (g .done) (i ∷ []) items)) (g .back (i ∷ items) (runs-more s w x items t d r));
-        puts = put-as (lines-more s (g .done) i) (g .puts ▸ p);
+        puts = put-as (each-more (itemLine s) (g .done) i) (g .puts ▸ p);
       }
 
 -- the last step

@@ -1,6 +1,6 @@
 -- Text that is put in a buffer, one part after another. Assumes nothing.
 use mathlib.Core.Path.{_≡_, refl, sym, ap, _∙_}
-use mathlib.Core.List.{List, [], _∷_, _++_}
+use mathlib.Core.List.{List, [], _∷_, _++_, append-nil, append-assoc}
 use Prim.Native.Nat.{ℕ, suc, _+_, _≤_, _<_}
 use native.Mathlib.Omega.{arith}
 use borrow.Author.Tests.{lt-ltb, le-ltb}
@@ -81,3 +81,13 @@ put-as {lent = lent} {at = at} e h = record { is = h .is ∙ ap (λ (l : List �
 -- a byte that is named in another way
 pub byte-as : {a b : ℕ} {lent left : List ℕ} {at end : ℕ} → a ≡ b → Puts (a ∷ []) lent at left end → Puts (b ∷ []) lent at left end
 byte-as e h = put-as (ap (λ (x : ℕ). x ∷ []) e) h
+
+-- one member more of a list
+each-append : {A : Type 0} (f : A → List ℕ) (xs ys : List A) → each f (xs ++ ys) ≡ each f xs ++ each f ys
+unfolding each
+each-append f [] ys = refl
+each-append f (a ∷ xs) ys = ap (λ (l : List ℕ). f a ++ l) (each-append f xs ys) ∙ sym (append-assoc (f a) (each f xs) (each f ys))
+
+pub each-more : {A : Type 0} (f : A → List ℕ) (xs : List A) (a : A) → each f xs ++ f a ≡ each f (xs ++ (a ∷ []))
+unfolding each
+each-more f xs a = sym (each-append f xs (a ∷ []) ∙ ap (λ (l : List ℕ). each f xs ++ l) (append-nil (f a)))

@@ -44,10 +44,10 @@ pub record PutsSome (Allowed : List ℕ → Type 0) (lent : List ℕ) (at : ℕ)
   pub allowed : Allowed text
   pub puts : Puts text lent at left end
 
--- what each number of a list is written as, one after the other
-unfoldable pub each : (ℕ → List ℕ) → List ℕ → List ℕ
+-- what each member of a list is written as, one after the other
+unfoldable pub each : {A : Type 0} → (A → List ℕ) → List A → List ℕ
 each f [] = []
-each f (n ∷ ns) = f n ++ each f ns
+each f (a ∷ xs) = f a ++ each f xs
 
 -- a digit below 16: `0` to `9`, then `a` to `f`
 abbrev pub digit : ℕ → ℕ

@@ -18,7 +18,7 @@ use Rattle.tokens.specs.declared.Token.{Token}
 use Rattle.tokens.proofs.Steps.{step-is, walk-is, walk-token, plus, plus-zero, plus-none, plus-before}
 use Rattle.sheet.specs.Sheet.{readAt}
 use Rattle.sheet.proofs.Noting.{read-is, read-token}
-use Rattle.print.specs.Text.{ascii, lineOf, refusedOf}
+use Rattle.print.specs.Text.{ascii, each, lineOf, refusedOf}
 use Rattle.stream_answers.specs.Token.{tokenText}
 use Rattle.stream_answers.specs.Walk.{tokensText, lastText, walkText}
 
@@ -31,7 +31,7 @@ module _ (s : List ℕ) (end : ℕ) (f : Flags) where
   rest-first at = ap (λ (x : Counted). tokensText s (readAt s end f at) ++ lastText x) (sym (plus-zero (walkAt s end f at)))
 
   pub rest-next : (at n m : ℕ) (t : Token) → stepAt s end f at ≡ given (handed t) m → rest at n ≡ tokenText s t ++ rest m (n + 1)
-  unfolding tokensText
+  unfolding each
   rest-next at n m t e =
       ap (λ (l : List Token). tokensText s l ++ lastText (plus n (walkAt s end f at))) (read-token s end f at m t e)
       ∙ ap (λ (x : Counted). tokenText s t ++ tokensText s (readAt s end f m) ++ lastText x)
@@ -39,13 +39,13 @@ module _ (s : List ℕ) (end : ℕ) (f : Flags) where
       ∙ append-assoc (tokenText s t) (tokensText s (readAt s end f m)) (lastText (plus (n + 1) (walkAt s end f m)))
 
   pub rest-over : (at n m : ℕ) → stepAt s end f at ≡ given over m → rest at n ≡ lineOf (ascii "ok") (n ∷ [])
-  unfolding tokensText
+  unfolding each
   rest-over at n m e =
       ap (λ (l : List Token). tokensText s l ++ lastText (plus n (walkAt s end f at))) (read-is s end f at (given over m) e)
       ∙ ap lastText (ap (plus n) (walk-is s end f at (given over m) e) ∙ plus-none n)
 
   pub rest-refused : (at n k p : ℕ) → stepAt s end f at ≡ refused k p → rest at n ≡ refusedOf (record { number = k; place = p })
-  unfolding tokensText
+  unfolding each
   rest-refused at n k p e =
       ap (λ (l : List Token). tokensText s l ++ lastText (plus n (walkAt s end f at))) (read-is s end f at (refused k p) e)
       ∙ ap (λ (w : Walked). lastText (plus n w)) (walk-is s end f at (refused k p) e)
@@ -71,7 +71,7 @@ module _ (s : List ℕ) (start len : ℕ) (f : Flags) where
   Lines a b = tokensText s (pick a (pick b (readAt s (start + len) f start) []) []) ++ lastText (countedOf (Whole a b len))
 
   by-tests : (a b : Bool) (c : Counted) → c ≡ countedOf (Whole a b 0) → walkText s start len f ≡ Lines a b → Tells s start len f c
-  unfolding tokensText
+  unfolding each
   by-tests true true (C.Count n) e h = h
   by-tests true true (C.Refused r) e h =
       let z : C.Refused r ≡ C.Count 0 = e ∙ ap countedOf (walk-none s f start) in

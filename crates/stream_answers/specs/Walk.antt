@@ -10,13 +10,12 @@ use Rattle.tokens.specs.Walk.{walkOf, countedOf}
 use Rattle.tokens.specs.declared.Flags.{Flags}
 use Rattle.tokens.specs.declared.Token.{Token}
 use Rattle.sheet.specs.Sheet.{readAt}
-use Rattle.print.specs.Text.{ascii, lineOf, refusedOf}
+use Rattle.print.specs.Text.{ascii, each, lineOf, refusedOf}
 use Rattle.stream_answers.specs.Token.{tokenText}
 
 -- "A line a token"
-unfoldable pub tokensText : List ℕ → List Token → List ℕ
-tokensText s [] = []
-tokensText s (t ∷ l) = tokenText s t ++ tokensText s l
+abbrev pub tokensText : List ℕ → List Token → List ℕ
+tokensText s l = each (tokenText s) l
 
 -- "Last `ok` and the count of tokens, or `refused` number place"
 abbrev pub lastText : Counted → List ℕ

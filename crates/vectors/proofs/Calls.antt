@@ -8,6 +8,7 @@ use Rattle.value.specs.Scalar.{bitsOf, realOf, unsignedOf, decodedOf}
 use Rattle.value.specs.Value.{sizedAt, unsizedAt}
 use Rattle.record.specs.Chunk.{fieldsAt, offsetsAt}
 use Rattle.record.specs.Record.{plainAt, strictAt, payloadOf}
+use Rattle.chunk.specs.Listing.{rowsOf}
 use Rattle.tokens.specs.Instance.{tableAt, valuesAt}
 use Rattle.tokens.specs.Single.{singleOf, endsOf}
 use Rattle.tokens.specs.Token.{smallAt, textsAt, namesAt, otherAt}
@@ -15,13 +16,12 @@ use Rattle.tokens.specs.Walk.{turnAt, stepFrom, walkFrom, walkOf}
 use Rattle.sheet.specs.Sheet.{readFrom}
 use Rattle.stream_answers.specs.Modes.{answerText}
 use Rattle.stream_answers.specs.Token.{valuesFrom}
-use Rattle.stream_answers.specs.Walk.{tokensText}
-use Rattle.listing_text.specs.Listing.{itemLines, count}
+use Rattle.listing_text.specs.Listing.{count}
 use Rattle.print.specs.Text.{put, each, decimalIn}
 use Rattle.vectors.specs.Calls.{Calls}
 
 pub calls : Calls
-unfolding little startsWith arrayAt unitsOf beforeZero hashFrom among knownCode widthOf bitsOf realOf unsignedOf decodedOf sizedAt unsizedAt fieldsAt offsetsAt plainAt strictAt payloadOf tableAt valuesAt singleOf endsOf smallAt textsAt namesAt otherAt turnAt stepFrom walkFrom walkOf put each decimalIn readFrom valuesFrom tokensText answerText itemLines count
+unfolding little startsWith arrayAt unitsOf beforeZero hashFrom among knownCode widthOf bitsOf realOf unsignedOf decodedOf sizedAt unsizedAt fieldsAt offsetsAt plainAt strictAt payloadOf tableAt valuesAt singleOf endsOf smallAt textsAt namesAt otherAt turnAt stepFrom walkFrom walkOf put each decimalIn readFrom valuesFrom answerText count rowsOf
 calls =
     record {
       read = refl;
@@ -34,6 +34,7 @@ calls =
       prefixed = refl;
       zero-ended = refl;
       sid = refl;
+      elements = refl;
       array = refl;
       all-bytes = refl;
       begins = refl;
@@ -41,8 +42,11 @@ calls =
       unit = refl;
       hash = refl;
       known = refl;
+      known-array = refl;
       width = refl;
       element = refl;
+      unknown = refl;
+      sign = refl;
       decode = refl;
       tokens = refl;
       values = refl;
@@ -59,6 +63,7 @@ calls =
       start = refl;
       resync = refl;
       list = (refl, refl);
+      rows = (refl, refl);
       counts = refl;
       refuses = refl;
       said = refl;

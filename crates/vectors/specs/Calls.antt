@@ -4,6 +4,7 @@ use mathlib.Core.Path.{_≡_}
 use mathlib.Core.Bool.{Bool, true, false}
 use mathlib.Core.List.{List, [], _∷_, _++_}
 use Prim.Native.Nat.{ℕ}
+use lib.IntN.{negsuc, pos}
 use lib.ListN.{length, getD, replicate}
 use Rattle.cursor.specs.Answer.{Answer, given, refused}
 use Rattle.cursor.specs.Reads.{numberAt, numberOf, setTo, takeAt, partOf, sidAt, arrayAt, startsWith}
@@ -14,14 +15,14 @@ use Rattle.cursor.specs.declared.Counted.the-variants as C
 use Rattle.name.specs.Hash.{hashOf}
 use Rattle.value.specs.Kinds.{knownCode, widthOf, elementWidthOf}
 use Rattle.value.specs.Scalar.{decodedOf, decoded}
-use Rattle.value.specs.declared.Scalar.the-variants.{Unsigned}
-use Rattle.value.specs.Value.{valueOf}
+use Rattle.value.specs.declared.Scalar.the-variants.{Signed, Unsigned}
+use Rattle.value.specs.Value.{valueOf, unsizedAt}
 use Rattle.value.specs.declared.Content.the-variants.{Number}
 use Rattle.record.specs.Answers.{refusalOf}
 use Rattle.record.specs.Chunk.{fieldsAt, stringsOf, checksumAt}
 use Rattle.record.specs.Record.{recordAt, payloadOf}
 use Rattle.chunk.specs.Walk.{startOf, ResyncAfter}
-use Rattle.chunk.specs.Listing.{Lists}
+use Rattle.chunk.specs.Listing.{Lists, RowsAnswer}
 use Rattle.record.specs.declared.Record.{Record}
 use Rattle.chunk.specs.declared.Item.the-variants as I
 use Rattle.chunk.specs.declared.Place.the-variants as P
@@ -83,7 +84,8 @@ pub record Calls : Type 0 where
   pub zero-ended : zeroEndedAt (0x41 ∷ 0 ∷ 0x42 ∷ []) 0 ≡ refused 3 2
   -- `read_sid`: eight bytes, and four for each group
   pub sid : sidAt (1 ∷ 1 ∷ replicate 10 0) 0 ≡ given (part 0 12) 12
-  -- `read_array`: the size is looked at before the bytes
+  -- `read_array`: all bytes of the array; the size is looked at before them
+  pub elements : arrayAt (replicate 8 0) 0 4 8 ≡ given (part 0 8) 8
   pub array : arrayAt [] 0 4 6 ≡ refused 10 0
   -- `begins`: every byte counts; a slice that is too short does not begin with a magic
   pub all-bytes : startsWith (0x2A ∷ 0x2B ∷ []) (0x2A ∷ 0x2A ∷ []) ≡ false
@@ -95,9 +97,13 @@ pub record Calls : Type 0 where
   pub hash : hashOf (0xFFFF ∷ 0xFFFF ∷ []) ≡ 0xFFC0
   -- `Kind::known`, `width`, `element_width`
   pub known : knownCode 0x16 ≡ false
+  pub known-array : knownCode 0x8E ≡ false
   pub width : widthOf 0x12 ≡ 16
   pub element : elementWidthOf 0x8F ≡ 16
-  -- `decode`: a 10 of four bytes is a number
+  -- `read_unsized`: an unknown code is refused after the code
+  pub unknown : unsizedAt (0x16 ∷ []) 0 ≡ refused 7 1
+  -- `decode`: the sign; a 10 of four bytes is a number
+  pub sign : decodedOf 0x03 (0xFF ∷ []) ≡ decoded 0xFF (Signed (negsuc 0))
   pub decode : decodedOf 0x10 (7 ∷ 0 ∷ 0 ∷ 0 ∷ []) ≡ decoded 7 (Unsigned 7)
   -- `tokens::count`: the end byte is no token
   pub tokens : countedOf (walkOn (whole emptyElement)) ≡ C.Count 2
@@ -127,6 +133,8 @@ pub record Calls : Type 0 where
   -- `resync_after`, `list`: the chunk's refusal; nothing is written
   pub resync : ResyncAfter three 0 (R.Refused (refusalOf 1 0))
   pub list : Lists three (startOf true) (9 ∷ []) (9 ∷ []) (C.Refused (refusalOf 1 0))
+  -- five words an answer: 16 with the words needed
+  pub rows : RowsAnswer (I.Live (recordAt7 512) ∷ I.Live (recordAt7 540) ∷ []) (replicate 9 0) (replicate 9 0) (C.Refused (refusalOf 16 10))
   -- the C calls' answer word: a count as it is; a refusal's number and place
   pub counts : packedOf (C.Count 2) ≡ 2
   pub refuses : packedOf (C.Refused (refusalOf 9 1)) ≡ 0x8900000000000001

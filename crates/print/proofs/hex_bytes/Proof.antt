@@ -10,7 +10,8 @@ use Rattle.print.proofs.hex_bytes.Statement.{statement}
 use Rattle.print.proofs.hex_bytes.Tie as tie
 
 abbrev Inv-loop : tie.InvT-loop
-Inv-loop out₀ at bytes end₀ i₀ i-end out end i = (i ≤ i-end) × (i-end ≡ length bytes) × (length out ≡ length out₀) × Left (each hexByte (drop i bytes)) out end (each hexByte bytes) out₀ at
+Inv-loop out₀ at bytes end₀ i₀ i-end out end i =
+    (i ≤ i-end) × (i-end ≡ length bytes) × (length out ≡ length out₀) × Left (each hexByte (drop i bytes)) out end (each hexByte bytes) out₀ at
 
 abbrev μ-loop : tie.MeasureT-loop
 μ-loop out₀ at bytes end₀ i₀ i-end out end i = i-end - i
@@ -19,7 +20,13 @@ loop-holds : tie.Need-loop-holds Inv-loop μ-loop
 loop-holds c = (omega arith, omega arith, omega arith, nothing-yet)
 
 loop-again : tie.Need-loop-again Inv-loop μ-loop
-loop-again c = (omega arith, omega arith, omega arith, each-next hexByte _ (c .before .before .before .before .before .before .loop .i) (omega arith) (c .before .before .hex-byte .ensures) (c .before .before .before .before .before .before .loop .inv .3))
+loop-again c =
+    let l = c .before .before .before .before .before .before .loop in (
+      omega arith,
+      omega arith,
+      omega arith,
+      each-next hexByte _ (l .i) (omega arith) (c .before .before .hex-byte .ensures) (l .inv .3),
+    )
 
 returns : tie.Need-returns Inv-loop μ-loop
 returns c = each-all hexByte _ (c .before .loop .i) (omega arith) (c .before .loop .inv .3)

@@ -10,7 +10,8 @@ use Rattle.print.proofs.hex_halves.Statement.{statement}
 use Rattle.print.proofs.hex_halves.Tie as tie
 
 abbrev Inv-loop : tie.InvT-loop
-Inv-loop out₀ at list end₀ i₀ i-end out end i = (i ≤ i-end) × (i-end ≡ length list) × (length out ≡ length out₀) × Left (each spacedHalf (drop i list)) out end (each spacedHalf list) out₀ at
+Inv-loop out₀ at list end₀ i₀ i-end out end i =
+    (i ≤ i-end) × (i-end ≡ length list) × (length out ≡ length out₀) × Left (each spacedHalf (drop i list)) out end (each spacedHalf list) out₀ at
 
 abbrev μ-loop : tie.MeasureT-loop
 μ-loop out₀ at list end₀ i₀ i-end out end i = i-end - i
@@ -19,7 +20,13 @@ loop-holds : tie.Need-loop-holds Inv-loop μ-loop
 loop-holds c = (omega arith, omega arith, omega arith, nothing-yet)
 
 loop-again : tie.Need-loop-again Inv-loop μ-loop
-loop-again c = (omega arith, omega arith, omega arith, each-next spacedHalf _ (c .before .before .before .before .before .before .before .before .before .before .loop .i) (omega arith) (c .before .before .before .before .before .before .before .byte .ensures ▸ c .before .before .hex-half .ensures) (c .before .before .before .before .before .before .before .before .before .before .loop .inv .3))
+loop-again c =
+    let l = c .before .before .before .before .before .before .before .before .before .before .loop in (
+      omega arith,
+      omega arith,
+      omega arith,
+      each-next spacedHalf _ (l .i) (omega arith) (c .before .before .before .before .before .before .before .byte .ensures ▸ c .before .before .hex-half .ensures) (l .inv .3),
+    )
 
 returns : tie.Need-returns Inv-loop μ-loop
 returns c = each-all spacedHalf _ (c .before .loop .i) (omega arith) (c .before .loop .inv .3)

@@ -18,7 +18,13 @@ loop-holds : tie.Need-loop-holds Inv-loop μ-loop
 loop-holds c = (omega arith, omega arith, omega arith, nothing-yet)
 
 loop-again : tie.Need-loop-again Inv-loop μ-loop
-loop-again c = (omega arith, omega arith, omega arith, text-next _ (c .before .before .before .before .before .before .loop .i) (omega arith) (c .before .before .byte .ensures) (c .before .before .before .before .before .before .loop .inv .3))
+loop-again c =
+    let l = c .before .before .before .before .before .before .loop in (
+      omega arith,
+      omega arith,
+      omega arith,
+      text-next _ (l .i) (omega arith) (c .before .before .byte .ensures) (l .inv .3),
+    )
 
 returns : tie.Need-returns Inv-loop μ-loop
 returns c = text-all _ (c .before .loop .i) (omega arith) (c .before .loop .inv .3)
