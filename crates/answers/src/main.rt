@@ -100,7 +100,7 @@ fn answered(out: &mut [u8], at: usize, case: Case, bytes: &mut [u8]) -> Turn {
     bad(out, at)
 }
 
-// A buffer that is full has lost something, and ends the run; one that is half full is written out.
+// A buffer that is full may have lost something, and ends the run; one that is a quarter full is written out.
 fn kept(out: &mut [u8], at: usize) -> Turn {
     if out.len() <= at {
         return bad(out, 0);

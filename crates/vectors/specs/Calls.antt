@@ -107,6 +107,10 @@ pub record Calls : Type 0 where
   pub decode : decodedOf 0x10 (7 ∷ 0 ∷ 0 ∷ 0 ∷ []) ≡ decoded 7 (Unsigned 7)
   -- `tokens::count`: the end byte is no token
   pub tokens : countedOf (walkOn (whole emptyElement)) ≡ C.Count 2
+  -- `tokens::step`: the last token may run over; the header after a token is no part of it; 7 after the code
+  pub last : countedOf (walkOf emptyElement 0 1 plainly) ≡ C.Count 1
+  pub before-header : walkText (0x02 ∷ 0x0F ∷ 1 ∷ 1 ∷ 0 ∷ 0x04 ∷ []) 0 6 plainly ≡ ascii "0 1 3\n5 1 5\nok 2\n"
+  pub unknown-type : walkText (0x0D ∷ 0 ∷ 0 ∷ 0x16 ∷ []) 0 4 plainly ≡ ascii "refused 7 4\n"
   -- `Values::of`: the values begin where the instance says, not at their descriptors
   pub values : valuesOf (record { id = 0; offset = 0; guid = part 0 0; table = 14; count = 1; values = 18 }) .at ≡ 18
   -- `Values::next`: a value, and the next descriptor four bytes on; where none is left, done, whatever the stream holds
