@@ -6,6 +6,16 @@ pub data Answer (A : Type 0) : Type 0 where
   given : A → ℕ → Answer A
   refused : ℕ → ℕ → Answer A
 
+-- what a call answers that leaves no position: what it says, or a refusal's number and place
+pub data Result (A : Type 0) : Type 0 where
+  gives : A → Result A
+  refuses : ℕ → ℕ → Result A
+
+-- something, or nothing of the kind
+pub data Maybe (A : Type 0) : Type 0 where
+  just : A → Maybe A
+  nothing : Maybe A
+
 -- what comes after a read: it goes on with what was read and the next position; a refusal stays as it is
 infixl 20 _then_
 abbrev pub _then_ : {A B : Type 0} → Answer A → (A → ℕ → Answer B) → Answer B

@@ -1,6 +1,6 @@
 -- Each answer enum in document 01's terms: what was read and the next position, or the refusal's number and place.
 use Prim.Native.Nat.{ℕ}
-use Rattle.cursor.specs.Answer.{Answer, given, refused}
+use Rattle.cursor.specs.Answer.{Answer, given, refused, Result, gives, refuses}
 use Rattle.cursor.specs.declared.Refusal.{Refusal}
 use Rattle.cursor.specs.declared.Part.{Part}
 use Rattle.cursor.specs.declared.View.{View}
@@ -18,6 +18,8 @@ use Rattle.cursor.specs.declared.Taken.{Taken}
 use Rattle.cursor.specs.declared.Taken.the-variants as B
 use Rattle.cursor.specs.declared.Text.{Text}
 use Rattle.cursor.specs.declared.Text.the-variants as X
+use Rattle.cursor.specs.declared.Counted.{Counted}
+use Rattle.cursor.specs.declared.Counted.the-variants as C
 
 abbrev pub refusal : {A : Type 0} → Refusal → Answer A
 refusal r = refused (r .number) (r .place)
@@ -49,3 +51,8 @@ takenAnswer (B.Refused r) = refusal r
 abbrev pub textAnswer : Text → Answer View
 textAnswer (X.Units v c) = given v (c .at)
 textAnswer (X.Refused r) = refusal r
+
+-- a count, or the refusal's number and place
+abbrev pub countAnswer : Counted → Result ℕ
+countAnswer (C.Count n) = gives n
+countAnswer (C.Refused r) = refuses (r .number) (r .place)
