@@ -8,15 +8,22 @@ use native.Mathlib.Decide.{decLe}
 use borrow.Author.Tests.{le-leb, lt-leb, leb-true, leb-false}
 use lib.Dec.{leb}
 use lib.ListN.{length}
-use Rattle.cursor.specs.Answer.{Answer, given, pick}
+use Rattle.cursor.specs.Answer.{Answer, given, refused, _then_, must, pick}
 use Rattle.cursor.specs.Answers.{refusal}
-use Rattle.cursor.specs.Reads.{within, readOf, tooFewBytes}
+use Rattle.cursor.specs.Reads.{within, readOf}
+use Rattle.cursor.specs.Pieces.{tooFewBytes}
 use Rattle.cursor.specs.declared.Refusal.{Refusal}
 
 -- what holds of both choices, each under its test, holds of the choice
 pub either : {A : Type 0} (P : A → Type 0) (b : Bool) (x y : A) → (b ≡ true → P x) → (b ≡ false → P y) → P (pick b x y)
 either P true x y f g = f refl
 either P false x y f g = g refl
+
+-- what holds of what comes after a test, and of the refusal, holds of both together
+pub tested : {A : Type 0} (P : Answer A → Type 0) (b : Bool) (k p : ℕ) (f : Unit → ℕ → Answer A) → (b ≡ true → P (f tt p)) → (b ≡ false → P (refused k p))
+    → P (must b k p then f)
+tested P true k p f g h = g refl
+tested P false k p f g h = h refl
 
 not-le : (m n : ℕ) → (m ≤ n → ⊥) → n < m
 not-le m n k = omega arith

@@ -11,7 +11,8 @@ use lib.Dec.{eqb}
 use Rattle.cursor.specs.Reads.{little, bytesOf}
 use Rattle.cursor.proofs.Choice.{either}
 use Rattle.cursor.specs.Answer.{given, refused}
-use Rattle.cursor.specs.Text.{unitsOf, beforeZero, zeroEndedAt}
+use Rattle.cursor.specs.Text.{unitsOf, beforeZero, viewOf, zeroEndedAt}
+use Rattle.cursor.specs.declared.View.{View}
 
 -- two bytes make a unit
 pub units-length : (t : List ℕ) → length (unitsOf t) ≡ length t / 2
@@ -50,29 +51,32 @@ before-length [] = omega arith
 before-length (u ∷ us) =
     either (λ (m : ℕ). m ≤ suc (length us)) (eqb u 0) 0 (beforeZero us + 1) (λ e. omega arith) (λ e. omega (arith, before-length us))
 
--- the units before the first zero lie within their part
-pub before-part : (n : ℕ) (s : List ℕ) (at : ℕ) → 2 * beforeZero (unitsOf (take n (drop at s))) ≤ length s - at
-before-part n s at =
-    let t = take n (drop at s) in
-    let k : length t ≤ length s - at = simp (length-take, length-drop) (omega arith) in
-    omega (arith, before-length (unitsOf t), units-length t)
+-- the units before the first zero lie within their text
+pub before-bytes : (t : List ℕ) → 2 * beforeZero (unitsOf t) ≤ length t
+before-bytes t = omega (arith, before-length (unitsOf t), units-length t)
 
 -- a part that goes to the end
 pub tail : (s : List ℕ) (at : ℕ) → take (length s - at) (drop at s) ≡ drop at s
 tail s at = take-all (length s - at) (drop at s) (simp length-drop (omega arith))
 
--- m units stand before the first zero unit from a position on, or before the end
-module _ (s : List ℕ) (at m : ℕ) (e : m ≡ beforeZero (unitsOf (drop at s))) where
+-- the view of what stands from a position on: a zero unit is there, or the last unit is cut
+module _ (s : List ℕ) (at : ℕ) (v : View) (e : v ≡ viewOf at (unitsOf (drop at s))) where
   count : length (unitsOf (drop at s)) ≡ (length s - at) / 2
   count = units-length (drop at s) ∙ ap (λ (k : ℕ). k / 2) (length-drop at s)
 
-  pub zero-read : m < (length s - at) / 2 → given (record { part = record { start = at; len = 2 * m } }) (at + 2 * m + 2) ≡ zeroEndedAt s at
-  zero-read h =
-      let l : m < length (unitsOf (drop at s)) = omega (arith, count) in
-      simp (sym e, lt-ltb _ _ l)
+  shown : v .part .len ≡ 2 * beforeZero (unitsOf (drop at s))
+  shown = ap (λ (x : View). x .part .len) e
 
-  pub zero-cut : (length s - at) / 2 ≤ m → refused 3 (at + 2 * m) ≡ zeroEndedAt s at
+  pub shown-within : v .part .len ≤ length s - at
+  shown-within = omega (arith, count, shown, before-length (unitsOf (drop at s)))
+
+  pub zero-read : v .part .len + 2 ≤ length s - at → given v (at + v .part .len + 2) ≡ zeroEndedAt s at
+  zero-read h =
+      let l : beforeZero (unitsOf (drop at s)) < length (unitsOf (drop at s)) = omega (arith, count, shown) in
+      simp (e, lt-ltb _ _ l)
+
+  pub zero-cut : length s - at < v .part .len + 2 → refused 3 (at + v .part .len) ≡ zeroEndedAt s at
   zero-cut h =
-      let l : length (unitsOf (drop at s)) ≤ beforeZero (unitsOf (drop at s)) = omega (arith, count) in
-      let k : m ≡ length (unitsOf (drop at s)) = omega (arith, before-length (unitsOf (drop at s))) in
+      let l : length (unitsOf (drop at s)) ≤ beforeZero (unitsOf (drop at s)) = omega (arith, count, shown) in
+      let k : v .part .len ≡ 2 * length (unitsOf (drop at s)) = omega (arith, shown, before-length (unitsOf (drop at s))) in
       simp (le-ltb _ _ l, k)

@@ -22,6 +22,11 @@ abbrev pub _then_ : {A B : Type 0} → Answer A → (A → ℕ → Answer B) →
 given a n then f = f a n
 refused k p then f = refused k p
 
+-- a test that a read must pass: where it holds the read goes on, and else it is refused, with a number and a place
+abbrev pub must : Bool → ℕ → ℕ → Answer Unit
+must true number place = given tt place
+must false number place = refused number place
+
 -- the first where the test holds, else the second
 abbrev pub pick : {A : Type 0} → Bool → A → A → A
 pick true a b = a

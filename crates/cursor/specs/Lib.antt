@@ -3,5 +3,6 @@ pub mod Answer
 pub mod Refusals
 pub mod Reads
 pub mod Text
+pub mod Pieces
 pub mod Answers
 pub mod Lent

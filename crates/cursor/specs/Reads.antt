@@ -7,11 +7,6 @@ use lib.ListN.{length, take, drop, getD}
 use Rattle.cursor.specs.Answer.{Answer, given, refused, _then_, pick}
 use Rattle.cursor.specs.Refusals.{pastEnd, tooFew, unevenArray}
 use Rattle.cursor.specs.declared.Part.{Part}
-use Rattle.cursor.specs.declared.Refusal.{Refusal}
-
--- the refusal 3, where the read starts
-abbrev pub tooFewBytes : ℕ → Refusal
-tooFewBytes at = record { number = tooFew; place = at }
 
 -- n bytes stand in s from the position on
 abbrev pub within : List ℕ → ℕ → ℕ → Bool
@@ -55,6 +50,10 @@ takeAt s at n = readOf s at n (record { start = at; len = n })
 -- what a part is in a slice: its bytes, or none where it does not lie within
 abbrev pub partOf : List ℕ → Part → List ℕ
 partOf s p = pick (within s (p .start) (p .len)) (bytesOf s (p .start) (p .len)) []
+
+-- the same part of a slice in which its own begins at `by`
+abbrev pub partMoved : ℕ → Part → Part
+partMoved by p = record { start = by + p .start; len = p .len }
 
 -- "13 reads 8 + 4 × its byte 1"; the first 8 bytes are looked at first
 abbrev pub sidAt : List ℕ → ℕ → Answer Part

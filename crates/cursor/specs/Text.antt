@@ -6,7 +6,7 @@ use lib.Dec.{ltb, eqb}
 use lib.ListN.{length, drop}
 use Rattle.cursor.specs.Answer.{Answer, given, refused, _then_, pick}
 use Rattle.cursor.specs.Refusals.{tooFew}
-use Rattle.cursor.specs.Reads.{bytesOf, numberAt, takeAt}
+use Rattle.cursor.specs.Reads.{bytesOf, numberAt, takeAt, partMoved}
 use Rattle.cursor.specs.declared.View.{View}
 
 -- the units of two bytes each, little-endian; an odd byte at the end is no unit
@@ -20,31 +20,31 @@ unfoldable pub beforeZero : List ℕ → ℕ
 beforeZero [] = 0
 beforeZero (u ∷ us) = pick (eqb u 0) 0 (beforeZero us + 1)
 
--- "the view stops before the first zero unit": of a text of n bytes
-abbrev pub viewOf : List ℕ → ℕ → ℕ → View
-viewOf s at n = record { part = record { start = at; len = 2 * beforeZero (unitsOf (bytesOf s at n)) } }
+-- "the view stops before the first zero unit": the view of a text that has these units, from a position on. Every view is this one,
+abbrev pub viewOf : ℕ → List ℕ → View
+viewOf at units = record { part = record { start = at; len = 2 * beforeZero units } }
 
--- counted units: n units in one read
+-- or the same of a slice in which the text's own begins at `by`
+abbrev pub viewMoved : ℕ → View → View
+viewMoved by v = record { part = partMoved by (v .part) }
+
+-- counted units: n units in one read, and their view
 abbrev pub countedAt : List ℕ → ℕ → ℕ → Answer View
-countedAt s at n = takeAt s at (2 * n) then λ _ next. given (viewOf s at (2 * n)) next
+countedAt s at n = takeAt s at (2 * n) then λ _ next. given (viewOf at (unitsOf (bytesOf s at (2 * n)))) next
 
--- one unit more is read after a text, whatever it is
-abbrev pub unitAfter : List ℕ → View → ℕ → Answer View
-unitAfter s v at = numberAt s at 2 then λ _ next. given v next
-
-abbrev pub endedAt : List ℕ → Answer View → Answer View
-endedAt s text = text then unitAfter s
-
--- "u16 n, then n units", and a unit after them where the text is terminated
+-- "u16 n, then n units", and a unit after them, whatever it is, where the text is terminated
 abbrev pub prefixedAt : List ℕ → ℕ → Bool → Answer View
 prefixedAt s at terminated =
-    numberAt s at 2 then λ n next. pick terminated (endedAt s (countedAt s next n)) (countedAt s next n)
+    numberAt s at 2 then λ n next.
+    pick terminated
+    (countedAt s next n then λ v end. numberAt s end 2 then λ _ after. given v after)
+    (countedAt s next n)
 
 -- units up to a zero unit, which is read too; each is a read of its own, so a 3 stands at the unit that is cut
 abbrev pub zeroEndedFrom : ℕ → List ℕ → Answer View
 zeroEndedFrom at units =
     pick (ltb (beforeZero units) (length units))
-    (given (record { part = record { start = at; len = 2 * beforeZero units } }) (at + 2 * beforeZero units + 2))
+    (given (viewOf at units) (at + 2 * beforeZero units + 2))
     (refused tooFew (at + 2 * length units))
 
 abbrev pub zeroEndedAt : List ℕ → ℕ → Answer View

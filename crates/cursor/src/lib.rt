@@ -324,7 +324,7 @@ impl Cursor {
         }
         let bytes = 2 * n;
         if raw::stands(s, at, bytes) {
-            Text::Units(raw::view(s, at, bytes), Cursor { at: at + bytes })
+            Text::Units(raw::view(&s[at..at + bytes], at), Cursor { at: at + bytes })
         } else {
             Text::Refused(raw::too_few_bytes(at))
         }
@@ -356,19 +356,12 @@ impl Cursor {
             return Text::Refused(raw::too_few_bytes(at));
         }
         let t = &s[at..];
-        let n = raw::before_zero(t);
-        if n < t.len() / 2 {
-            Text::Units(
-                View {
-                    part: Part {
-                        start: at,
-                        len: 2 * n,
-                    },
-                },
-                Cursor { at: at + 2 * n + 2 },
-            )
+        let v = raw::view(t, at);
+        let shown = v.part.len;
+        if shown + 2 <= t.len() {
+            Text::Units(v, Cursor { at: at + shown + 2 })
         } else {
-            Text::Refused(raw::too_few_bytes(at + 2 * n))
+            Text::Refused(raw::too_few_bytes(at + shown))
         }
     }
 }

@@ -10,8 +10,9 @@ ghost use mathlib.Core.Path.{_≡_};
 ghost use Prim.Native.Nat.{_+_, _*_, _≤_};
 ghost use lib.ListN.{length};
 ghost use Rattle.cursor.specs.Answers.{textAnswer};
-ghost use Rattle.cursor.specs.Reads.{within, little, bytesOf, tooFewBytes};
-ghost use Rattle.cursor.specs.Text.{unitsOf, beforeZero, viewOf, unitAfter, endedAt};
+ghost use Rattle.cursor.specs.Reads.{within, little, bytesOf};
+ghost use Rattle.cursor.specs.Text.{unitsOf, beforeZero, viewOf};
+ghost use Rattle.cursor.specs.Pieces.{tooFewBytes, unitAfter, endedAt};
 
 // Refusal 3, where the read starts.
 pub(crate) fn too_few_bytes(at: usize) -> Refusal
@@ -93,12 +94,11 @@ pub(crate) fn before_zero(t: &[u8]) -> usize
     n
 }
 
-// The view of a text of `bytes` bytes at `at`.
-pub(crate) fn view(s: &[u8], at: usize, bytes: usize) -> View
-    requires { ⌜ at + bytes ≤ length (now s) ⌝ }
-    ensures { λ r. ⌜ r ≡ viewOf (now (s .entry)) at bytes ⌝ }
+// The view of the text t, which starts at `at`. Every view is made here.
+pub(crate) fn view(t: &[u8], at: usize) -> View
+    ensures { λ r. ⌜ r ≡ viewOf at (unitsOf (now (t .entry))) ⌝ }
 {
-    let n = before_zero(&s[at..at + bytes]);
+    let n = before_zero(t);
     View {
         part: Part {
             start: at,

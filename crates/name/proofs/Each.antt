@@ -11,7 +11,8 @@ use lib.Seq.{drop-cons}
 use Rattle.cursor.specs.Answer.{given, refused}
 use Rattle.cursor.specs.Reads.{little, bytesOf}
 use Rattle.cursor.specs.Text.{unitsOf}
-use Rattle.name.specs.Name.{unitsAt, afterCount}
+use Rattle.name.specs.Name.{unitsAt}
+use Rattle.name.specs.Pieces.{afterCount}
 
 two-bytes : (s : List ℕ) (at : ℕ) → at + 2 ≤ length s → drop at s ≡ getD s at 0 ∷ (getD s (suc at) 0 ∷ drop (at + 2) s)
 two-bytes s at h =

@@ -1,3 +1,4 @@
 -- The definitions that the contracts of `name` cite.
 pub mod Hash
 pub mod Name
+pub mod Pieces

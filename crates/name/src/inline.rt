@@ -2,6 +2,7 @@
 use crate::Name;
 use crate::NameRead;
 use crate::name_hash;
+use crate::named;
 use cursor::Cursor;
 use cursor::ReadU16;
 use cursor::Refusal;
@@ -10,7 +11,8 @@ ghost use Prim.Native.Nat.{_+_, _*_, _≤_};
 ghost use lib.ListN.{length};
 ghost use Rattle.cursor.specs.Reads.{bytesOf};
 ghost use Rattle.cursor.specs.Text.{unitsOf};
-ghost use Rattle.name.specs.Name.{nameAnswer, inlineNameAt, afterHash, afterCount, afterUnits, judged};
+ghost use Rattle.name.specs.Name.{nameAnswer, inlineNameAt};
+ghost use Rattle.name.specs.Pieces.{afterHash, afterCount, afterUnits, judged};
 
 pub(crate) fn read_inline_name(c: Cursor, s: &[u8]) -> NameRead
     ensures { λ r. ⌜ nameAnswer r ≡ inlineNameAt (now (s .entry)) (c .at) ⌝ }
@@ -49,15 +51,7 @@ fn after_count(start: usize, hash: u16, n: u16, c: Cursor, s: &[u8]) -> NameRead
             place: at + 2 * there,
         });
     }
-    after_units(
-        Name {
-            offset: start,
-            units: at,
-            count: count,
-        },
-        hash,
-        s,
-    )
+    after_units(named(start, at, count), hash, s)
 }
 
 // The zero unit after units that are there.

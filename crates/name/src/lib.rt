@@ -8,7 +8,7 @@ use cursor::unit_at;
 ghost use mathlib.Core.Path.{_≡_};
 ghost use Rattle.cursor.specs.Text.{unitsOf};
 ghost use Rattle.name.specs.Hash.{hashOf, mixed};
-ghost use Rattle.name.specs.Name.{nameAt, nameAnswer};
+ghost use Rattle.name.specs.Name.{nameAt, nameAnswer, nameOf};
 
 // A name: its offset (of an inline name, where it starts), where its units stand and how many they are.
 // Of an offset name that does not stand in place only the offset was read: no units, at 0.
@@ -21,6 +21,17 @@ pub struct Name {
 pub enum NameRead {
     Read(Name, Cursor),
     Refused(Refusal),
+}
+
+// Every name is made here.
+pub(crate) fn named(offset: usize, units: usize, count: usize) -> Name
+    ensures { λ r. ⌜ r ≡ nameOf offset units count ⌝ }
+{
+    Name {
+        offset: offset,
+        units: units,
+        count: count,
+    }
 }
 
 // Reads the name at the cursor.

@@ -1,13 +1,13 @@
 // Offset names: a u32 that says where the name stands. A name that stands right behind it is skipped.
-use crate::Name;
 use crate::NameRead;
+use crate::named;
 use cursor::Cursor;
 use cursor::Moved;
 use cursor::ReadU16;
 use cursor::ReadU32;
 ghost use mathlib.Core.Path.{_≡_};
-ghost use Rattle.cursor.specs.Answers.{movedAnswer};
-ghost use Rattle.name.specs.Name.{nameAnswer, offsetNameAt, afterOffset, linkAt, afterNext, inPlaceAt, afterLink, skipped};
+ghost use Rattle.name.specs.Name.{nameAnswer, offsetNameAt};
+ghost use Rattle.name.specs.Pieces.{afterOffset, inPlaceAt, afterNext, afterLink, skipped};
 
 pub(crate) fn read_offset_name_ref(c: Cursor, s: &[u8]) -> NameRead
     ensures { λ r. ⌜ nameAnswer r ≡ offsetNameAt (now (s .entry)) (c .at) ⌝ }
@@ -24,42 +24,27 @@ fn after_offset(offset: u32, c: Cursor, s: &[u8]) -> NameRead
     if c.at == offset as usize {
         name_in_place(offset, s)
     } else {
-        NameRead::Read(
-            Name {
-                offset: offset as usize,
-                units: 0,
-                count: 0,
-            },
-            c,
-        )
+        NameRead::Read(named(offset as usize, 0, 0), c)
     }
 }
 
-// The link before a name: where the next name stands, and a hash. Neither is looked at.
-fn read_name_link(c: Cursor, s: &[u8]) -> Moved
-    ensures { λ r. ⌜ movedAnswer r ≡ linkAt (now (s .entry)) (c .at) ⌝ }
-{
-    match c.u32(s) {
-        ReadU32::Value(_, next) => after_next(next, s),
-        ReadU32::Refused(r) => Moved::Refused(r),
-    }
-}
-
-fn after_next(c: Cursor, s: &[u8]) -> Moved
-    ensures { λ r. ⌜ movedAnswer r ≡ afterNext (now (s .entry)) (c .at) ⌝ }
-{
-    match c.u16(s) {
-        ReadU16::Value(_, next) => Moved::To(next),
-        ReadU16::Refused(r) => Moved::Refused(r),
-    }
-}
-
+// The link before a name, a u32 and a u16: where the next name stands, and a hash. Neither is looked at.
 fn name_in_place(at: u32, s: &[u8]) -> NameRead
     ensures { λ r. ⌜ nameAnswer r ≡ inPlaceAt (now (s .entry)) at ⌝ }
 {
-    match read_name_link(Cursor { at: at as usize }, s) {
-        Moved::To(next) => after_link(at, next, s),
-        Moved::Refused(r) => NameRead::Refused(r),
+    let c = Cursor { at: at as usize };
+    match c.u32(s) {
+        ReadU32::Value(_, next) => after_next(at, next, s),
+        ReadU32::Refused(r) => NameRead::Refused(r),
+    }
+}
+
+fn after_next(at: u32, c: Cursor, s: &[u8]) -> NameRead
+    ensures { λ r. ⌜ nameAnswer r ≡ afterNext (now (s .entry)) at (c .at) ⌝ }
+{
+    match c.u16(s) {
+        ReadU16::Value(_, next) => after_link(at, next, s),
+        ReadU16::Refused(r) => NameRead::Refused(r),
     }
 }
 
@@ -76,11 +61,7 @@ fn after_link(at: u32, c: Cursor, s: &[u8]) -> NameRead
 fn skip(at: u32, n: u16, c: Cursor, s: &[u8]) -> NameRead
     ensures { λ r. ⌜ nameAnswer r ≡ skipped (now (s .entry)) at n (c .at) ⌝ }
 {
-    let name = Name {
-        offset: at as usize,
-        units: c.at,
-        count: n as usize,
-    };
+    let name = named(at as usize, c.at, n as usize);
     match c.set_pos(s, at as usize + 10 + 2 * (n as usize)) {
         Moved::To(next) => NameRead::Read(name, next),
         Moved::Refused(r) => NameRead::Refused(r),

@@ -10,9 +10,10 @@ use Rattle.cursor.specs.Answer.{Answer}
 use Rattle.cursor.specs.Reads.{numberOf, setTo, takeAt}
 use Rattle.cursor.specs.Refusals.{unknownType, typeNotRead}
 use Rattle.cursor.specs.Text.{prefixedAt}
-use Rattle.cursor.proofs.Choice.{either}
+use Rattle.cursor.proofs.Choice.{either, tested}
 use Rattle.name.specs.Hash.{hashOf}
 use Rattle.name.specs.Name as N
+use Rattle.name.specs.Pieces as P
 use Rattle.value.specs.Kinds.{knownCode, widthOf, elementWidthOf}
 use Rattle.value.specs.Value.{valued, readIn, sidIn, tellsLength, toldIn, takesSize, notRead, sizedBytesIn, sizedIn, sizedAt, textAt, afterType, unsizedAt}
 use Rattle.value.specs.declared.Content.{Content}
@@ -94,17 +95,16 @@ module _ (s : List ℕ) (bytes : Bytes s) (short : length s ≤ 65536) where
       (λ e. not-read t n (length s) (rest n k) short code)))
 
   -- names
-  in-place : (at : ℕ) → at ≤ length s → Fits (length s) (N.inPlaceAt s at)
+  in-place : (at : ℕ) → at ≤ length s → Fits (length s) (P.inPlaceAt s at)
   in-place at h =
-      on (length s) (N.linkAt s at) (λ _ link. N.afterLink s at link)
-      (number-then s short bytes at 4 _ h (λ x n b k. number-then s short bytes n 2 _ k (λ y m c l. l)))
-      (λ x link k.
-      number-then s short bytes link 2 (N.skipped s at) k (λ n units b l.
-      on (length s) (setTo s (at + 10 + 2 * n)) _ (set-fits s short (at + 10 + 2 * n) (omega arith)) (λ y e i. i)))
+      number-then s short bytes at 4 (λ _ second. P.afterNext s at second) h (λ x second a i.
+      number-then s short bytes second 2 (λ _ third. P.afterLink s at third) i (λ y third c k.
+      number-then s short bytes third 2 (P.skipped s at) k (λ n units b l.
+      on (length s) (setTo s (at + 10 + 2 * n)) _ (set-fits s short (at + 10 + 2 * n) (omega arith)) (λ z e m. m))))
 
   offset-name : (at : ℕ) → at ≤ length s → Fits (length s) (N.offsetNameAt s at)
   offset-name at h =
-      number-then s short bytes at 4 (N.afterOffset s) h (λ offset n b k.
+      number-then s short bytes at 4 (P.afterOffset s) h (λ offset n b k.
       either (Fits (length s)) (eqb n offset) _ _ (λ e. in-place n k) (λ e. k))
 
   units : (n at : ℕ) → at ≤ length s → Fits (length s) (N.unitsAt s at n)
@@ -114,12 +114,12 @@ module _ (s : List ℕ) (bytes : Bytes s) (short : length s ≤ 65536) where
 
   inline-name : (at : ℕ) → at ≤ length s → Fits (length s) (N.inlineNameAt s at)
   inline-name at h =
-      number-then s short bytes at 2 (N.afterHash s at) h (λ stored n b k.
-      number-then s short bytes n 2 (N.afterCount s at stored) k (λ count m c l.
-      on (length s) (N.unitsAt s m count) (N.afterUnits s (record { offset = at; units = m; count = count }) stored) (units count m l) (λ us e i.
+      number-then s short bytes at 2 (P.afterHash s at) h (λ stored n b k.
+      number-then s short bytes n 2 (P.afterCount s at stored) k (λ count m c l.
+      on (length s) (N.unitsAt s m count) (P.afterUnits s (N.nameOf at m count) stored) (units count m l) (λ us e i.
       number-then s short bytes e 2 _ i (λ last z d j.
-      either (Fits (length s)) (eqb last 0) _ _
-      (λ p. either (Fits (length s)) (eqb stored (hashOf us)) _ _ (λ q. j) (λ q. (omega arith, omega arith)))
+      tested (Fits (length s)) (eqb last 0) _ _ _
+      (λ p. tested (Fits (length s)) (eqb stored (hashOf us)) _ _ _ (λ q. j) (λ q. (omega arith, omega arith)))
       (λ p. (omega arith, omega arith))))))
 
   pub name-fits : (at : ℕ) (inline : Bool) → at ≤ length s → Fits (length s) (N.nameAt s at inline)

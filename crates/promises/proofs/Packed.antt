@@ -6,13 +6,12 @@ use Prim.Native.Nat.{ℕ, _+_, _*_, _/_, _%_, _^_, _≤_, _<_}
 use native.Mathlib.Omega.{arith}
 use lib.Dec.{eqb, leb}
 use lib.ListN.{length, length-map}
-use Rattle.cursor.specs.Answer.{Answer, given, refused}
+use Rattle.cursor.specs.Answer.{Answer, given, refused, must}
 use Rattle.cursor.specs.Reads.{little, startsWith}
 use Rattle.cursor.specs.Refusals.{wrongLength, wrongMagic}
 use Rattle.cursor.specs.declared.Counted.{Counted}
 use Rattle.cursor.specs.declared.Counted.the-variants as C
 use Rattle.cursor.proofs.Choice.{either}
-use Rattle.record.specs.Must.{must}
 use Rattle.record.specs.Chunk.{fieldsAt, chunkSize, chunkMagic}
 use Rattle.record.specs.declared.Fields.{Fields}
 use Rattle.tokens.specs.Instance.{tableAt, valuesAt}

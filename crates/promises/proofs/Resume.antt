@@ -7,9 +7,8 @@ use native.Mathlib.Omega.{arith}
 use borrow.Author.Tests.{leb-true, lt-leb}
 use lib.Dec.{leb, ltb}
 use lib.ListN.{length, drop}
-use Rattle.cursor.specs.Answer.{Answer, given, refused, _then_, pick}
+use Rattle.cursor.specs.Answer.{Answer, given, refused, _then_, must, pick}
 use Rattle.cursor.specs.Reads.{startsWith}
-use Rattle.record.specs.Must.{must}
 use Rattle.record.specs.Chunk.{fieldsAt}
 use Rattle.record.specs.Record.{plainAt, strictAt, recordOf, recordMagic, lastFiletime}
 use Rattle.record.specs.declared.Fields.{Fields}

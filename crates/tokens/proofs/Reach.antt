@@ -11,9 +11,10 @@ use Rattle.cursor.specs.Answer.{Answer, given, refused, _then_}
 use Rattle.cursor.specs.Reads.{within, numberOf, numberAt, takeAt}
 use Rattle.cursor.specs.Text.{prefixedAt}
 use Rattle.cursor.specs.declared.Part.{Part}
-use Rattle.cursor.proofs.Choice.{either}
+use Rattle.cursor.proofs.Choice.{either, tested}
 use Rattle.name.specs.Hash.{hashOf}
 use Rattle.name.specs.Name as N
+use Rattle.name.specs.Pieces as P
 use Rattle.name.specs.declared.Name.{Name}
 use Rattle.value.specs.Kinds.{knownCode}
 use Rattle.value.specs.Value.{unsizedAt}
@@ -52,17 +53,18 @@ module _ (s : List ℕ) where
   then-number at w f g = on at (length s) (numberAt s at w) f (read-between s at w (numberOf s at w)) g
 
   -- names
-  in-place : (at : ℕ) → Between at (length s) (N.inPlaceAt s at)
+  in-place : (at : ℕ) → Between at (length s) (P.inPlaceAt s at)
   in-place at =
-      always at (length s) (N.linkAt s at) (λ _ link. N.afterLink s at link) (λ _ link.
-      always at (length s) (numberAt s link 2) (λ n units. N.skipped s at n units) (λ n units.
-      either (λ a. Between {A = Name} at (length s) (a then λ _ next. given (record { offset = at; units = units; count = n }) next)) (leb (at + 10 + 2 * n) (length s)) _ _
+      always at (length s) (numberAt s at 4) (λ _ second. P.afterNext s at second) (λ _ second.
+      always at (length s) (numberAt s second 2) (λ _ third. P.afterLink s at third) (λ _ third.
+      always at (length s) (numberAt s third 2) (P.skipped s at) (λ n units.
+      either (λ a. Between {A = Name} at (length s) (a then λ _ next. given (N.nameOf at units n) next)) (leb (at + 10 + 2 * n) (length s)) _ _
       (λ w. (omega arith, leb-true (at + 10 + 2 * n) (length s) w))
-      (λ w. tt {0})))
+      (λ w. tt {0}))))
 
   offset-name : (at : ℕ) → Between at (length s) (N.offsetNameAt s at)
   offset-name at =
-      then-number at 4 (N.afterOffset s) (λ offset n h.
+      then-number at 4 (P.afterOffset s) (λ offset n h.
       either (Between n (length s)) (eqb n offset) _ _ (λ e. in-place n) (λ e. (omega arith, h)))
 
   units : (n at : ℕ) → at ≤ length s → Between at (length s) (N.unitsAt s at n)
@@ -73,12 +75,12 @@ module _ (s : List ℕ) where
 
   inline-name : (at : ℕ) → Between at (length s) (N.inlineNameAt s at)
   inline-name at =
-      then-number at 2 (N.afterHash s at) (λ stored n h.
-      then-number n 2 (N.afterCount s at stored) (λ count m k.
-      on m (length s) (N.unitsAt s m count) (N.afterUnits s (record { offset = at; units = m; count = count }) stored) (units count m k) (λ us e l.
+      then-number at 2 (P.afterHash s at) (λ stored n h.
+      then-number n 2 (P.afterCount s at stored) (λ count m k.
+      on m (length s) (N.unitsAt s m count) (P.afterUnits s (N.nameOf at m count) stored) (units count m k) (λ us e l.
       then-number e 2 _ (λ last z i.
-      either (Between z (length s)) (eqb last 0) _ _
-      (λ p. either (Between z (length s)) (eqb stored (hashOf us)) _ _ (λ q. (omega arith, i)) (λ q. tt {0}))
+      tested (Between z (length s)) (eqb last 0) _ _ _
+      (λ p. tested (Between z (length s)) (eqb stored (hashOf us)) _ _ _ (λ q. (omega arith, i)) (λ q. tt {0}))
       (λ p. tt {0})))))
 
   name : (at : ℕ) (inline : Bool) → Between at (length s) (N.nameAt s at inline)

@@ -7,49 +7,28 @@ use borrow.Author.Needs.{needs}
 use Rattle.cursor.proofs.u32_at.Statement.{statement}
 use Rattle.cursor.proofs.u32_at.Tie as tie
 
-stands-requires : tie.Need-stands-requires
-stands-requires c κs = search needs
-
-four-requires : tie.Need-four-requires
-four-requires c κs =
-    let a = c .before .before .before .args in
-    there (a .s .now) (a .at) 4 _ (c .before .stands .ensures) (c .if1 .taken)
+bytes : tie.Need-four-requires
+bytes c κs = let a = c .before .before .before .args in there (a .s .now) (a .at) 4 _ (c .before .stands .ensures) (c .if1 .taken)
 
 returns : tie.Need-returns
 returns c = search needs
 
 returns-2 : tie.Need-returns-2
-returns-2 c =
-    let a = c .before .before .before .before .args in
-    sym (number-none (a .s .now) (a .at) 4 (c .if2 .taken))
-
-u16-at-requires : tie.Need-u16-at-requires
-u16-at-requires c κs = search needs
-
-add-u16-at : tie.Need-add-u16-at
-add-u16-at c = search needs
-
-u16-at-requires-2 : tie.Need-u16-at-requires-2
-u16-at-requires-2 c κs = search needs
-
-join16-requires : tie.Need-join16-requires
-join16-requires c κs = search needs
+returns-2 c = let a = c .before .before .before .before .args in sym (number-none (a .s .now) (a .at) 4 (c .if2 .taken))
 
 returns-3 : tie.Need-returns-3
-returns-3 c =
-    let a = c .before .before .before .before .before .before .before .args in
-    omega (arith, c .join16 .ensures, number-add (a .s .now) (a .at) 2 2)
+returns-3 c = let a = c .before .before .before .before .before .before .before .args in omega (arith, c .join16 .ensures, number-add (a .s .now) (a .at) 2 2)
 
 pub u32-at-spec : {M : Type 1} → statement M
 u32-at-spec =
     tie.close
     (tie.spec
-    stands-requires
-    four-requires
+    (λ c κs. search needs)
+    bytes
     returns
     returns-2
-    u16-at-requires
-    add-u16-at
-    u16-at-requires-2
-    join16-requires
+    (λ c κs. search needs)
+    (λ c. search needs)
+    (λ c κs. search needs)
+    (λ c κs. search needs)
     returns-3)

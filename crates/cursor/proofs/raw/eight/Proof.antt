@@ -5,22 +5,8 @@ use borrow.Author.Needs.{needs}
 use Rattle.cursor.proofs.raw.eight.Statement.{statement}
 use Rattle.cursor.proofs.raw.eight.Tie as tie
 
-four-requires : tie.Need-four-requires
-four-requires c κs = search needs
-
-add-four : tie.Need-add-four
-add-four c = search needs
-
-four-requires-2 : tie.Need-four-requires-2
-four-requires-2 c κs = search needs
-
-join32-requires : tie.Need-join32-requires
-join32-requires c κs = search needs
-
 returns : tie.Need-returns
-returns c =
-    let a = c .before .before .before .before .args in
-    omega (arith, c .join32 .ensures, number-add (a .s .now) (a .at) 4 4)
+returns c = let a = c .before .before .before .before .args in omega (arith, c .join32 .ensures, number-add (a .s .now) (a .at) 4 4)
 
 pub eight-spec : {M : Type 1} → statement M
-eight-spec = tie.close (tie.spec four-requires add-four four-requires-2 join32-requires returns)
+eight-spec = tie.close (tie.spec (λ c κs. search needs) (λ c. search needs) (λ c κs. search needs) (λ c κs. search needs) returns)

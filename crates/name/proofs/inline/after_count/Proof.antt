@@ -1,5 +1,4 @@
 -- `after_count` meets its contract: all units are there, or the first that is cut is refused. Assumes nothing.
-use mathlib.Core.Path.{sym, ap, _∙_}
 use Prim.Native.Nat.{_+_, _*_}
 use native.Mathlib.Omega.{arith}
 use Rattle.name.proofs.Each.{all-there, one-cut, past-end}
@@ -26,14 +25,26 @@ returns-2 c =
     let a = c .before .before .before .args in
     simp (one-cut (a .s .now) (a .n) (a .c .at) (c .before .if1 .left) (c .if2 .taken))
 
+named-requires : tie.Need-named-requires
+named-requires c κs = search needs
+
 after-units-requires : tie.Need-after-units-requires
-after-units-requires c κs = search needs
+after-units-requires c κs = rw (c .named .ensures) (omega arith)
 
 returns-3 : tie.Need-returns-3
 returns-3 c =
-    let a = c .before .before .before .before .args in
-    simp (all-there (a .s .now) (a .n) (a .c .at) (omega arith), c .after-units .ensures)
+    let a = c .before .before .before .before .before .args in
+    simp (all-there (a .s .now) (a .n) (a .c .at) (omega arith), c .after-units .ensures, c .before .named .ensures)
 
 pub after-count-spec : {M : Type 1} → statement M
 after-count-spec =
-    tie.close (tie.spec returns sub-there mul-t13 add-t14 returns-2 after-units-requires returns-3)
+    tie.close
+    (tie.spec
+    returns
+    sub-there
+    mul-t13
+    add-t14
+    returns-2
+    named-requires
+    after-units-requires
+    returns-3)

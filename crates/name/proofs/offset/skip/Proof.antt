@@ -5,6 +5,9 @@ use borrow.Author.Needs.{needs}
 use Rattle.name.proofs.offset.skip.Statement.{statement}
 use Rattle.name.proofs.offset.skip.Tie as tie
 
+named-requires : tie.Need-named-requires
+named-requires c κs = search needs
+
 add-set-pos : tie.Need-add-set-pos
 add-set-pos c = search needs
 
@@ -24,7 +27,7 @@ enum-known-r : tie.Need-enum-known-r
 enum-known-r c = search needs
 
 returns : tie.Need-returns
-returns c = simp (sym (c .before .before .before .set-pos .ensures) ∙ ap movedAnswer (c .before .next .given .1))
+returns c = simp (sym (c .before .before .before .set-pos .ensures) ∙ ap movedAnswer (c .before .next .given .1), c .before .before .before .before .named .ensures)
 
 returns-2 : tie.Need-returns-2
 returns-2 c = simp (sym (c .before .before .before .set-pos .ensures) ∙ ap movedAnswer (c .before .r .given .1))
@@ -33,6 +36,7 @@ pub skip-spec : {M : Type 1} → statement M
 skip-spec =
     tie.close
     (tie.spec
+    named-requires
     add-set-pos
     mul-set-pos
     add-set-pos-2
