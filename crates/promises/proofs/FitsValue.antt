@@ -1,66 +1,37 @@
 -- Names and values: what their definitions answer fits in an answer word. Assumes nothing.
-use mathlib.Core.Bool.{Bool, false, _||_}
+use mathlib.Core.Bool.{Bool, false}
 use mathlib.Core.List.{List}
-use Prim.Native.Nat.{ℕ, zero, suc, _+_, _*_, _/_, _%_, _^_, _≤_, _<_}
+use Prim.Native.Nat.{ℕ, zero, suc, _+_, _*_, _^_, _≤_, _<_}
 use native.Mathlib.Omega.{arith}
 use borrow.Author.Tests.{leb-true}
 use lib.Dec.{eqb, leb, ltb}
 use lib.ListN.{length, drop, length-drop}
-use Rattle.cursor.specs.Answer.{Answer}
-use Rattle.cursor.specs.Reads.{numberOf, setTo, takeAt}
-use Rattle.cursor.specs.Refusals.{unknownType, typeNotRead}
+use Rattle.cursor.specs.Answer.{Answer, given, refused, _then_, pick}
+use Rattle.cursor.specs.Reads.{setTo, takeAt}
 use Rattle.cursor.specs.Text.{prefixedAt}
 use Rattle.cursor.proofs.Choice.{either, tested}
 use Rattle.name.specs.Hash.{hashOf}
 use Rattle.name.specs.Name as N
 use Rattle.name.specs.Pieces as P
-use Rattle.value.specs.Kinds.{knownCode, widthOf, elementWidthOf}
-use Rattle.value.specs.Value.{valued, readIn, sidIn, tellsLength, toldIn, takesSize, notRead, sizedBytesIn, sizedIn, sizedAt, textAt, afterType, unsizedAt}
+use Rattle.value.specs.Value.{asText, moved, tellsLength, toldIn, notRead, sizedIn, sizedAt, unsizedAt}
+use Rattle.value.specs.Pieces.{afterType}
 use Rattle.value.specs.declared.Content.{Content}
+use Rattle.value.proofs.Inside.{Inside, told-inside, not-read, sized-inside}
 use Rattle.promises.specs.Packed.{Bytes}
-use Rattle.promises.proofs.Fits.{Small, Fits, on, read-fits, number-then, set-fits}
+use Rattle.promises.proofs.Fits.{Fits, on, read-fits, number-then, set-fits}
 
--- a part t from `start` on, within the stream
+-- what was read of a part t from `start` on, within the stream
 module _ (t : List ℕ) (start high : ℕ) (inside : start + length t ≤ high) (short : high ≤ 65536) where
-  in-read : {A : Type 0} (n : ℕ) (a : A) → Fits high (readIn t start n a)
-  in-read n a = either (Fits high) (leb n (length t)) _ _ (λ w. omega (arith, leb-true n (length t) w)) (λ w. (omega arith, omega arith))
-
-  in-sid : Fits high (sidIn t start)
-  in-sid = on high (readIn t start 8 (numberOf t 1 1)) _ (in-read 8 (numberOf t 1 1)) (λ groups n h. in-read (8 + 4 * groups) _)
-
-  in-told : (code : ℕ) → Fits high (toldIn t start code)
-  in-told code =
-      either (Fits high) (ltb 0 (widthOf code)) _ _
-      (λ w. either (Fits high) (eqb (widthOf code) 16) _ _ (λ e. in-read (widthOf code) _) (λ e. in-read (widthOf code) _))
-      (λ w. either (Fits high) (eqb code 0x13) _ _ (λ e. in-sid) (λ e. omega arith))
-
-  not-read : (code : ℕ) → Small (notRead code) start
-  not-read code =
-      either (λ k. Small k start) (knownCode code) typeNotRead unknownType (λ e. (omega arith, omega arith)) (λ e. (omega arith, omega arith))
-
-  in-bytes : (code size : ℕ) → Fits high (sizedBytesIn t start code size)
-  in-bytes code size =
-      either (Fits high) (ltb 0 (elementWidthOf code)) _ _
-      (λ w. either (Fits high) (eqb (size % elementWidthOf code) 0) _ _ (λ e. in-read size _) (λ e. (omega arith, omega arith)))
-      (λ w. either (Fits high) (takesSize code) _ _ (λ e. in-read size _) (λ e. not-read code))
-
-  in-sized : (code size : ℕ) → Fits high (sizedIn t start code size)
-  in-sized code size =
-      either (Fits high) (tellsLength code) _ _ (λ w. in-told code)
-      (λ w. either (Fits high) (eqb code 0x01) _ _ (λ e. in-read (2 * (size / 2)) _)
-      (λ e. either (Fits high) (eqb code 0x10) _ _
-      (λ f. either (Fits high) (eqb size 4 || eqb size 8) _ _ (λ g. in-read size _) (λ g. (omega arith, omega arith)))
-      (λ f. in-bytes code size)))
-
-  value-fits : (code : ℕ) (a : Answer Content) → Fits high a → Fits high (valued code start a)
-  value-fits code a h = on high a _ h (λ x n k. k)
+  moved-fits : (a : Answer Content) → Inside (length t) a → Fits high (moved start a)
+  moved-fits (given x next) h = omega arith
+  moved-fits (refused k p) h = (omega arith, omega arith)
 
   -- a value with a size: the position is set at most the size past its start
   sized-fits : (code size : ℕ) → size < 2 ^ 32 → Fits high (sizedAt t start code size)
   unfolding sizedAt
   sized-fits code size h =
       either (Fits high) (ltb (start + length t + size) (2 ^ 64)) _ _
-      (λ w. on high (valued code start (sizedIn t start code size)) _ (value-fits code (sizedIn t start code size) (in-sized code size)) (λ v n k.
+      (λ w. on high (moved start (sizedIn t code size)) _ (moved-fits (sizedIn t code size) (sized-inside t code size)) (λ x n k.
       either (Fits high) (leb (start + size) n) _ _ (λ u. k)
       (λ u. either (Fits high) (leb (start + size) (start + length t)) _ _
       (λ e. omega (arith, leb-true (start + size) (start + length t) e))
@@ -88,11 +59,14 @@ module _ (s : List ℕ) (bytes : Bytes s) (short : length s ≤ 65536) where
   unsized-fits at h =
       number-then s short bytes at 1 (afterType s) h (λ code n b k.
       let t = drop n s in
-      either (Fits (length s)) (tellsLength code) _ _
-      (λ w. value-fits t n (length s) (rest n k) short code (toldIn t n code) (in-told t n (length s) (rest n k) short code))
+      let a = pick (tellsLength code) (moved n (toldIn t code)) (pick (eqb code 0x01) (prefixedAt s n false then asText) (refused (notRead code) n)) in
+      on (length s) a _
+      (either (Fits (length s)) (tellsLength code) _ _
+      (λ w. moved-fits t n (length s) (rest n k) short (toldIn t code) (told-inside t code))
       (λ w. either (Fits (length s)) (eqb code 0x01) _ _
-      (λ e. value-fits t n (length s) (rest n k) short code (textAt s n) (on (length s) (prefixedAt s n false) _ (text-fits n k) (λ v m l. l)))
-      (λ e. not-read t n (length s) (rest n k) short code)))
+      (λ e. on (length s) (prefixedAt s n false) asText (text-fits n k) (λ v m l. l))
+      (λ e. (omega (arith, not-read t code), omega arith))))
+      (λ x m l. l))
 
   -- names
   in-place : (at : ℕ) → at ≤ length s → Fits (length s) (P.inPlaceAt s at)

@@ -2,12 +2,12 @@
 use mathlib.Core.List.{List, [], _++_}
 use Prim.Native.Nat.{ℕ, _+_, _%_, _^_}
 use lib.IntN.{ℤ, pos, negsuc}
+use Rattle.cursor.specs.Answer.{Maybe, just, nothing}
 use Rattle.cursor.specs.Reads.{partOf}
 use Rattle.value.specs.Scalar.{decodedOf}
 use Rattle.value.specs.declared.Content.{Content}
 use Rattle.value.specs.declared.Content.the-variants as C
-use Rattle.value.specs.declared.Decoding.{Decoding}
-use Rattle.value.specs.declared.Decoding.the-variants.{Number, NoNumber}
+use Rattle.value.specs.declared.Decoded.{Decoded}
 use Rattle.value.specs.declared.Scalar.{Scalar}
 use Rattle.value.specs.declared.Scalar.the-variants.{Signed, Unsigned, Single, Double}
 use Rattle.value.specs.declared.Value.{Value}
@@ -27,9 +27,9 @@ scalarText bits (Single x) = ascii "f" ++ hexHalf (bits % 2 ^ 32)
 scalarText bits (Double x) = ascii "f" ++ hexWord bits
 
 -- a value that was read has a number's type where it holds a number
-abbrev pub numberText : Decoding → List ℕ
-numberText (Number d) = scalarText (d .bits) (d .value)
-numberText NoNumber = []
+abbrev pub numberText : Maybe Decoded → List ℕ
+numberText (just d) = scalarText (d .bits) (d .value)
+numberText nothing = []
 
 -- "`n` for type 00; `t` and the view's bytes for 01"; numbers; "`b` and the bytes for all else (`t-` and `b-` where there are none)"
 abbrev pub heldText : List ℕ → ℕ → Content → List ℕ

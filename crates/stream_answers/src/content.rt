@@ -5,6 +5,7 @@ use value::Scalar;
 use value::Value;
 ghost use mathlib.Core.List.{_∷_, [], _++_};
 ghost use Prim.Native.Nat.{_+_, _%_, _^_, _<_};
+ghost use Rattle.value.specs.Scalar.{decodingAnswer};
 ghost use Rattle.print.specs.Text.{ascii, Puts, hexOf, hexHalf, hexWord, decimalOf};
 ghost use Rattle.stream_answers.specs.Content.{contentText, numberText, scalarText, signedText};
 
@@ -31,7 +32,7 @@ fn bytes(out: &mut [u8], at: usize, letter: u8, part: &[u8]) -> usize
 }
 
 fn number(out: &mut [u8], at: usize, d: Decoding) -> usize
-    ensures { λ r. ⌜ Puts (numberText d) (now (out .entry)) at (now (out .exit)) r ⌝ }
+    ensures { λ r. ⌜ Puts (numberText (decodingAnswer d)) (now (out .entry)) at (now (out .exit)) r ⌝ }
 {
     match d {
         Decoding::Number(x) => {

@@ -5,8 +5,8 @@ use native.Mathlib.Omega.{arith}
 use borrow.Author.Tests.{leb-true}
 use lib.ListN.{length}
 use Rattle.cursor.specs.Answer.{Answer, given, refused, _then_}
-use Rattle.cursor.specs.Reads.{within, readOf}
-use Rattle.cursor.specs.Text.{countedAt, viewOf}
+use Rattle.cursor.specs.Reads.{within, bytesOf, readOf}
+use Rattle.cursor.specs.Text.{unitsOf, countedAt, viewOf}
 use Rattle.cursor.proofs.Choice.{either}
 
 -- what was read ends between the two positions
@@ -21,6 +21,6 @@ read-between s at n a =
 
 pub counted-between : (s : List ℕ) (at n : ℕ) → Between at (length s) (countedAt s at n)
 counted-between s at n =
-    either (λ x. Between at (length s) (x then λ _ next. given (viewOf s at (2 * n)) next)) (within s at (2 * n)) _ _
+    either (λ x. Between at (length s) (x then λ _ next. given (viewOf at (unitsOf (bytesOf s at (2 * n)))) next)) (within s at (2 * n)) _ _
     (λ w. (omega arith, leb-true (at + 2 * n) (length s) w))
     (λ w. tt {0})

@@ -1,11 +1,11 @@
--- Each code is known and read with a size, or known and not read, or unknown. Assumes nothing.
+-- The type set is the known codes; each code is known and read with a size, or known and not read, or unknown. Assumes nothing.
 use mathlib.Core.Path.{_≡_, refl}
 use mathlib.Core.Bool.{Bool, _&&_, _||_, not}
 use mathlib.Core.List.{[], _∷_}
 use Prim.Native.Nat.{ℕ, _<_}
 use native.Mathlib.Omega.{arith}
 use lib.Dec.{eqb, ltb}
-use Rattle.value.specs.Kinds.{among, knownCode, widthOf, elementWidthOf}
+use Rattle.value.specs.Kinds.{among, codes, knownCode, widthOf, elementWidthOf}
 use Rattle.value.specs.Value.{tellsLength, takesSize}
 use Rattle.value.proofs.Codes.{same-test}
 
@@ -18,3 +18,8 @@ pub all-but-four : (code : ℕ) → code < 256 → readWithSize code ≡ (knownC
 unfolding among knownCode widthOf
 all-but-four code h =
     same-test readWithSize (λ k. knownCode k && not (among k (0x20 ∷ 0x23 ∷ 0x90 ∷ 0x93 ∷ []))) 256 0 refl code (omega arith) (omega arith)
+
+-- the type set holds exactly the known codes
+pub exactly-known : (code : ℕ) → code < 256 → knownCode code ≡ among code codes
+unfolding among knownCode
+exactly-known code h = same-test knownCode (λ k. among k codes) 256 0 refl code (omega arith) (omega arith)

@@ -1,7 +1,7 @@
 -- The type set. Document 01, "Values"; the codes are hexadecimal, as there.
 use mathlib.Core.Bool.{Bool, false, _&&_, _||_}
-use mathlib.Core.List.{List, [], _∷_}
-use Prim.Native.Nat.{ℕ, _-_}
+use mathlib.Core.List.{List, [], _∷_, _++_}
+use Prim.Native.Nat.{ℕ, zero, suc, _-_}
 use lib.Dec.{eqb, leb, ltb}
 use Rattle.cursor.specs.Answer.{pick}
 
@@ -13,6 +13,18 @@ among code (x ∷ xs) = eqb code x || among code xs
 -- from the first code to the last, both counted
 abbrev pub spans : ℕ → ℕ → ℕ → Bool
 spans first last code = leb first code && leb code last
+
+-- codes one after the other, from the first to the last
+abbrev from : ℕ → ℕ → List ℕ
+from first zero = []
+from first (suc n) = first ∷ from (suc first) n
+
+abbrev pub upTo : ℕ → ℕ → List ℕ
+upTo first last = from first (suc last - first)
+
+-- the type set: "A type set with named constants holds the known codes: 00 to 15, 20, 21, 23, 81 to 8D, 8F to 95 (hex)"
+abbrev pub codes : List ℕ
+codes = upTo 0x00 0x15 ++ (0x20 ∷ 0x21 ∷ 0x23 ∷ []) ++ upTo 0x81 0x8D ++ upTo 0x8F 0x95
 
 -- "the known codes: 00 to 15, 20, 21, 23, 81 to 8D, 8F to 95 (hex)"
 unfoldable pub knownCode : ℕ → Bool

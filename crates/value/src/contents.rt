@@ -1,17 +1,22 @@
-// What a value holds, by its type. `rest` is the part of the stream from the value to the stream's end, and `start` is where it starts
-// in the stream; a function here may ask that the end fits a number. Every refusal here stands at the value's start.
+// What a value holds, by its type. `rest` is the part of the stream from the value to the stream's end: each read is a read of the cursor
+// at the beginning of `rest`, and `moved` then puts what was read where it stands in the stream.
 use crate::Content;
 use crate::Kind;
 use cursor::Cursor;
 use cursor::Part;
 use cursor::Refusal;
+use cursor::Taken;
 use cursor::Text;
 use cursor::View;
 ghost use mathlib.Core.Path.{_≡_};
 ghost use Prim.Native.Nat.{_+_, _^_, _<_};
-ghost use lib.ListN.{length};
 ghost use Rattle.cursor.specs.Answer as Answer;
-ghost use Rattle.value.specs.Value.{contentAnswer, readIn, bytesIn, numberIn, textIn, sidIn, fixedIn, tellsLength, toldIn, sizeTIn, arrayIn, takesSize, notRead, sizedBytesIn, sizedIn};
+ghost use Rattle.cursor.specs.Answer.{_then_};
+ghost use Rattle.cursor.specs.Answers.{takenAnswer, textAnswer};
+ghost use Rattle.cursor.specs.Reads.{partMoved};
+ghost use Rattle.cursor.specs.Text.{viewMoved};
+ghost use Rattle.value.specs.Value.{asBytes, asNumber, asText, placed, moved, tellsLength, toldIn, takesSize, sizeTIn, notRead, sizedIn};
+ghost use Rattle.value.specs.Pieces.{contentAnswer, fixedIn, bySizeIn, placeOf, Movable};
 
 // What was read of a value, before its size is looked at again.
 pub enum ContentRead {
@@ -33,35 +38,32 @@ pub(crate) fn tells(code: u8) -> bool
 }
 
 // What such a type reads.
-pub(crate) fn told(rest: &[u8], start: usize, code: u8) -> ContentRead
-    requires { ⌜ start + length (now rest) < 2 ^ 64 ⌝ }
-    ensures { λ r. ⌜ contentAnswer r ≡ toldIn (now (rest .entry)) start code ⌝ }
+pub(crate) fn told(rest: &[u8], code: u8) -> ContentRead
+    ensures { λ r. ⌜ contentAnswer r ≡ toldIn (now (rest .entry)) code ⌝ }
 {
     let width = Kind::width(code);
+    let c = Cursor { at: 0 };
     if 0 < width {
-        return fixed(rest, start, width);
+        return fixed(rest, width);
     }
     if code == Kind::SID {
-        return sid(rest, start);
+        return bytes(c.read_sid(rest));
     }
-    ContentRead::Read(Content::Nothing, Cursor { at: start })
+    ContentRead::Read(Content::Nothing, c)
 }
 
 // What a type reads with a size.
-pub(crate) fn sized(rest: &[u8], start: usize, code: u8, size: usize) -> ContentRead
-    requires { ⌜ start + length (now rest) < 2 ^ 64 ⌝ }
-    ensures { λ r. ⌜ contentAnswer r ≡ sizedIn (now (rest .entry)) start code size ⌝ }
+pub(crate) fn sized(rest: &[u8], code: u8, size: usize) -> ContentRead
+    ensures { λ r. ⌜ contentAnswer r ≡ sizedIn (now (rest .entry)) code size ⌝ }
 {
+    let c = Cursor { at: 0 };
     if tells(code) {
-        return told(rest, start, code);
+        return told(rest, code);
     }
     if code == Kind::STRING {
-        return text(rest, start, size / 2);
+        return text(c.utf16_by_char_count(rest, size / 2));
     }
-    if code == Kind::SIZE_T {
-        return size_t(rest, start, size);
-    }
-    sized_bytes(rest, start, code, size)
+    by_size(rest, code, size)
 }
 
 // The refusal of a type that is not read: 8 if it is known, else 7.
@@ -75,134 +77,126 @@ pub(crate) fn not_read(code: u8) -> u8
     }
 }
 
-fn refused(number: u8, start: usize) -> ContentRead
-    ensures { λ r. ⌜ contentAnswer r ≡ Answer.refused number start ⌝ }
+// What was read of the part, where it stands in the stream in which the part starts at `start`.
+pub(crate) fn moved(got: ContentRead, start: usize) -> ContentRead
+    requires { ⌜ Movable start (contentAnswer got) ⌝ }
+    ensures { λ r. ⌜ contentAnswer r ≡ moved start (contentAnswer got) ⌝ }
 {
-    ContentRead::Refused(Refusal {
-        number: number,
-        place: start,
-    })
-}
-
-// One read of n bytes, which gives the content.
-fn read(rest: &[u8], start: usize, n: usize, content: Content) -> ContentRead
-    requires { ⌜ start + length (now rest) < 2 ^ 64 ⌝ }
-    ensures { λ r. ⌜ contentAnswer r ≡ readIn (now (rest .entry)) start n content ⌝ }
-{
-    if rest.len() < n {
-        return refused(Refusal::TOO_FEW_BYTES, start);
-    }
-    ContentRead::Read(content, Cursor { at: start + n })
-}
-
-fn bytes(rest: &[u8], start: usize, n: usize) -> ContentRead
-    requires { ⌜ start + length (now rest) < 2 ^ 64 ⌝ }
-    ensures { λ r. ⌜ contentAnswer r ≡ bytesIn (now (rest .entry)) start n ⌝ }
-{
-    read(
-        rest,
-        start,
-        n,
-        Content::Bytes(Part {
-            start: start,
-            len: n,
-        }),
-    )
-}
-
-fn number(rest: &[u8], start: usize, n: usize) -> ContentRead
-    requires { ⌜ start + length (now rest) < 2 ^ 64 ⌝ }
-    ensures { λ r. ⌜ contentAnswer r ≡ numberIn (now (rest .entry)) start n ⌝ }
-{
-    read(
-        rest,
-        start,
-        n,
-        Content::Number(Part {
-            start: start,
-            len: n,
-        }),
-    )
-}
-
-// A width of 16 bytes is no number's.
-fn fixed(rest: &[u8], start: usize, width: usize) -> ContentRead
-    requires { ⌜ start + length (now rest) < 2 ^ 64 ⌝ }
-    ensures { λ r. ⌜ contentAnswer r ≡ fixedIn (now (rest .entry)) start width ⌝ }
-{
-    if width == 16 {
-        bytes(rest, start, width)
-    } else {
-        number(rest, start, width)
-    }
-}
-
-fn sid(rest: &[u8], start: usize) -> ContentRead
-    requires { ⌜ start + length (now rest) < 2 ^ 64 ⌝ }
-    ensures { λ r. ⌜ contentAnswer r ≡ sidIn (now (rest .entry)) start ⌝ }
-{
-    if rest.len() < 8 {
-        return refused(Refusal::TOO_FEW_BYTES, start);
-    }
-    bytes(rest, start, 8 + 4 * (cursor::u8_at(rest, 1) as usize))
-}
-
-fn text(rest: &[u8], start: usize, units: usize) -> ContentRead
-    requires { ⌜ start + length (now rest) < 2 ^ 64 ⌝ }
-    ensures { λ r. ⌜ contentAnswer r ≡ textIn (now (rest .entry)) start units ⌝ }
-{
-    let c = Cursor { at: 0 };
-    match c.utf16_by_char_count(rest, units) {
-        Text::Units(v, next) => ContentRead::Read(
-            Content::Text(View {
-                part: Part {
-                    start: start,
-                    len: v.part.len,
-                },
-            }),
+    match got {
+        ContentRead::Read(content, next) => ContentRead::Read(
+            placed(content, start),
             Cursor {
                 at: start + next.at,
             },
         ),
-        Text::Refused(_) => refused(Refusal::TOO_FEW_BYTES, start),
+        ContentRead::Refused(r) => refused(r.number, start + r.place),
     }
 }
 
-fn size_t(rest: &[u8], start: usize, size: usize) -> ContentRead
-    requires { ⌜ start + length (now rest) < 2 ^ 64 ⌝ }
-    ensures { λ r. ⌜ contentAnswer r ≡ sizeTIn (now (rest .entry)) start size ⌝ }
+fn placed(content: Content, start: usize) -> Content
+    requires { ⌜ start + placeOf content < 2 ^ 64 ⌝ }
+    ensures { λ r. ⌜ r ≡ placed start content ⌝ }
 {
-    if size == 4 {
-        return number(rest, start, 4);
+    match content {
+        Content::Nothing => Content::Nothing,
+        Content::Text(v) => Content::Text(view_moved(v, start)),
+        Content::Number(p) => Content::Number(part_moved(p, start)),
+        Content::Bytes(p) => Content::Bytes(part_moved(p, start)),
     }
-    if size == 8 {
-        return number(rest, start, 8);
-    }
-    refused(Refusal::TYPE_NOT_READ, start)
 }
 
-fn sized_bytes(rest: &[u8], start: usize, code: u8, size: usize) -> ContentRead
-    requires { ⌜ start + length (now rest) < 2 ^ 64 ⌝ }
-    ensures { λ r. ⌜ contentAnswer r ≡ sizedBytesIn (now (rest .entry)) start code size ⌝ }
+fn view_moved(v: View, by: usize) -> View
+    requires { ⌜ by + v .part .start < 2 ^ 64 ⌝ }
+    ensures { λ r. ⌜ r ≡ viewMoved by v ⌝ }
 {
+    let mut there = v;
+    there.part = part_moved(v.part, by);
+    there
+}
+
+fn part_moved(p: Part, by: usize) -> Part
+    requires { ⌜ by + p .start < 2 ^ 64 ⌝ }
+    ensures { λ r. ⌜ r ≡ partMoved by p ⌝ }
+{
+    Part {
+        start: by + p.start,
+        len: p.len,
+    }
+}
+
+fn refused(number: u8, place: usize) -> ContentRead
+    ensures { λ r. ⌜ contentAnswer r ≡ Answer.refused number place ⌝ }
+{
+    ContentRead::Refused(Refusal {
+        number: number,
+        place: place,
+    })
+}
+
+fn bytes(got: Taken) -> ContentRead
+    ensures { λ r. ⌜ contentAnswer r ≡ (takenAnswer got then asBytes) ⌝ }
+{
+    match got {
+        Taken::Bytes(p, next) => ContentRead::Read(Content::Bytes(p), next),
+        Taken::Refused(r) => ContentRead::Refused(r),
+    }
+}
+
+fn number(got: Taken) -> ContentRead
+    ensures { λ r. ⌜ contentAnswer r ≡ (takenAnswer got then asNumber) ⌝ }
+{
+    match got {
+        Taken::Bytes(p, next) => ContentRead::Read(Content::Number(p), next),
+        Taken::Refused(r) => ContentRead::Refused(r),
+    }
+}
+
+pub(crate) fn text(got: Text) -> ContentRead
+    ensures { λ r. ⌜ contentAnswer r ≡ (textAnswer got then asText) ⌝ }
+{
+    match got {
+        Text::Units(v, next) => ContentRead::Read(Content::Text(v), next),
+        Text::Refused(r) => ContentRead::Refused(r),
+    }
+}
+
+// A width of 16 bytes is no number's.
+fn fixed(rest: &[u8], width: usize) -> ContentRead
+    ensures { λ r. ⌜ contentAnswer r ≡ fixedIn (now (rest .entry)) width ⌝ }
+{
+    let c = Cursor { at: 0 };
+    let got = c.take_bytes(rest, width);
+    if width == 16 { bytes(got) } else { number(got) }
+}
+
+fn by_size(rest: &[u8], code: u8, size: usize) -> ContentRead
+    ensures { λ r. ⌜ contentAnswer r ≡ bySizeIn (now (rest .entry)) code size ⌝ }
+{
+    let c = Cursor { at: 0 };
+    if takes_size(code) {
+        return bytes(c.take_bytes(rest, size));
+    }
+    if code == Kind::SIZE_T {
+        return size_t(rest, size);
+    }
     let width = Kind::element_width(code);
     if 0 < width {
-        return array(rest, start, width, size);
+        return bytes(c.read_array(rest, width, size));
     }
-    if takes_size(code) {
-        return bytes(rest, start, size);
-    }
-    refused(not_read(code), start)
+    refused(not_read(code), 0)
 }
 
-fn array(rest: &[u8], start: usize, width: usize, size: usize) -> ContentRead
-    requires { ⌜ (0 < width) × (start + length (now rest) < 2 ^ 64) ⌝ }
-    ensures { λ r. ⌜ contentAnswer r ≡ arrayIn (now (rest .entry)) start width size ⌝ }
+fn size_t(rest: &[u8], size: usize) -> ContentRead
+    ensures { λ r. ⌜ contentAnswer r ≡ sizeTIn (now (rest .entry)) size ⌝ }
 {
-    if size % width != 0 {
-        return refused(Refusal::UNEVEN_ARRAY, start);
+    let c = Cursor { at: 0 };
+    if size == 4 {
+        return number(c.take_bytes(rest, 4));
     }
-    bytes(rest, start, size)
+    if size == 8 {
+        return number(c.take_bytes(rest, 8));
+    }
+    refused(Refusal::TYPE_NOT_READ, 0)
 }
 
 fn takes_size(code: u8) -> bool

@@ -8,15 +8,18 @@ use cursor::Cursor;
 use cursor::Part;
 use cursor::ReadU8;
 use cursor::Refusal;
-use cursor::Text;
 use cursor::View;
 ghost use mathlib.Core.Path.{_≡_};
 ghost use Prim.Native.Nat.{_≤_};
 ghost use lib.ListN.{length};
 ghost use Rattle.cursor.specs.Answer as Answer;
-ghost use Rattle.value.specs.Kinds.{knownCode, widthOf, elementWidthOf};
-ghost use Rattle.value.specs.Scalar.{decodedOf};
-ghost use Rattle.value.specs.Value.{contentAnswer, valueAnswer, valued, passed, passedTo, sizedAt, unsizedAt, afterType, textAt};
+ghost use Rattle.value.specs.Kinds.{codes, knownCode, widthOf, elementWidthOf};
+ghost use Rattle.value.specs.Scalar.{decodingAnswer, decodedOf};
+ghost use Rattle.value.specs.Value.{valueAnswer, sizedAt, unsizedAt};
+ghost use Rattle.value.specs.Pieces.{contentAnswer, valued, passed, passedTo, afterType};
+
+// By how much an array's code is above its element's.
+const ARRAY_OF: u8 = Kind::STRING_ARRAY - Kind::STRING;
 
 // The type set: the codes by their names in MS-EVEN6.
 pub struct Kind;
@@ -112,12 +115,70 @@ impl Kind {
 
     pub const HEX_INT64_ARRAY: u8 = 0x95;
 
+    // The whole type set, in the order of the codes.
+    pub fn all() -> [u8; 45]
+        ensures { λ r. ⌜ r ≡ codes ⌝ }
+    {
+        [
+            Kind::NULL,
+            Kind::STRING,
+            Kind::ANSI_STRING,
+            Kind::INT8,
+            Kind::UINT8,
+            Kind::INT16,
+            Kind::UINT16,
+            Kind::INT32,
+            Kind::UINT32,
+            Kind::INT64,
+            Kind::UINT64,
+            Kind::REAL32,
+            Kind::REAL64,
+            Kind::BOOL,
+            Kind::BINARY,
+            Kind::GUID,
+            Kind::SIZE_T,
+            Kind::FILETIME,
+            Kind::SYSTEMTIME,
+            Kind::SID,
+            Kind::HEX_INT32,
+            Kind::HEX_INT64,
+            Kind::EVT_HANDLE,
+            Kind::BIN_XML,
+            Kind::EVT_XML,
+            Kind::STRING_ARRAY,
+            Kind::ANSI_STRING_ARRAY,
+            Kind::INT8_ARRAY,
+            Kind::UINT8_ARRAY,
+            Kind::INT16_ARRAY,
+            Kind::UINT16_ARRAY,
+            Kind::INT32_ARRAY,
+            Kind::UINT32_ARRAY,
+            Kind::INT64_ARRAY,
+            Kind::UINT64_ARRAY,
+            Kind::REAL32_ARRAY,
+            Kind::REAL64_ARRAY,
+            Kind::BOOL_ARRAY,
+            Kind::GUID_ARRAY,
+            Kind::SIZE_T_ARRAY,
+            Kind::FILETIME_ARRAY,
+            Kind::SYSTEMTIME_ARRAY,
+            Kind::SID_ARRAY,
+            Kind::HEX_INT32_ARRAY,
+            Kind::HEX_INT64_ARRAY,
+        ]
+    }
+
     // Whether the type set has the code.
     pub fn known(code: u8) -> bool
         ensures { λ r. ⌜ r ≡ knownCode code ⌝ }
     {
         match code {
-            0x00..=0x15 | 0x20 | 0x21 | 0x23 | 0x81..=0x8D | 0x8F..=0x95 => true,
+            Kind::NULL..=Kind::HEX_INT64
+            | Kind::EVT_HANDLE
+            | Kind::BIN_XML
+            | Kind::EVT_XML
+            | Kind::STRING_ARRAY..=Kind::BOOL_ARRAY
+            | Kind::GUID_ARRAY..=Kind::HEX_INT64_ARRAY => true,
             _ => false,
         }
     }
@@ -145,10 +206,10 @@ impl Kind {
     pub fn element_width(code: u8) -> usize
         ensures { λ r. ⌜ r ≡ elementWidthOf code ⌝ }
     {
-        if code < 0x80 {
+        if code < ARRAY_OF {
             0
         } else {
-            Kind::width(code - 0x80)
+            Kind::width(code - ARRAY_OF)
         }
     }
 }
@@ -209,15 +270,8 @@ pub fn read_sized(rest: &[u8], start: usize, code: u8, size: u16) -> ValueRead
     }
     let end = start + rest.len();
     let target = start + size as usize;
-    passed(
-        valued(
-            code,
-            start,
-            contents::sized(rest, start, code, size as usize),
-        ),
-        end,
-        target,
-    )
+    let got = contents::sized(rest, code, size as usize);
+    passed(code, start, contents::moved(got, start), end, target)
 }
 
 // Reads a value without a size at the cursor: its type, and what that reads.
@@ -233,7 +287,7 @@ pub fn read_unsized(c: Cursor, s: &[u8]) -> ValueRead
 // The number that the stored bytes of a type are. Bytes that are not there count as zeros, so that a SIZE_T of 4 bytes is read like
 // one of 8.
 pub fn decode(code: u8, bytes: &[u8]) -> Decoding
-    ensures { λ r. ⌜ r ≡ decodedOf code (now (bytes .entry)) ⌝ }
+    ensures { λ r. ⌜ decodingAnswer r ≡ decodedOf code (now (bytes .entry)) ⌝ }
 {
     match code {
         Kind::INT8 => scalars::signed(cursor::u8_at(bytes, 0) as u64, 0xFF),
@@ -270,13 +324,22 @@ fn valued(code: u8, start: usize, got: ContentRead) -> ValueRead
     }
 }
 
-// What was read, and then the skip.
-fn passed(got: ValueRead, end: usize, target: usize) -> ValueRead
-    ensures { λ r. ⌜ valueAnswer r ≡ passed end target (valueAnswer got) ⌝ }
+// The value of what was read, and then the skip.
+fn passed(code: u8, start: usize, got: ContentRead, end: usize, target: usize) -> ValueRead
+    ensures { λ r. ⌜ valueAnswer r ≡ passed code start end target (contentAnswer got) ⌝ }
 {
     match got {
-        ValueRead::Read(v, next) => skip(v, next, end, target),
-        ValueRead::Refused(r) => ValueRead::Refused(r),
+        ContentRead::Read(content, next) => skip(
+            Value {
+                code: code,
+                start: start,
+                content: content,
+            },
+            next,
+            end,
+            target,
+        ),
+        ContentRead::Refused(r) => ValueRead::Refused(r),
     }
 }
 
@@ -300,20 +363,12 @@ fn after_type(code: u8, c: Cursor, s: &[u8]) -> ValueRead
 {
     let at = c.at;
     if contents::tells(code) {
-        return valued(code, at, contents::told(&s[at..], at, code));
+        let got = contents::told(&s[at..], code);
+        return valued(code, at, contents::moved(got, at));
     }
     if code == Kind::STRING {
-        return valued(code, at, string(c, s));
+        let got = c.len_prefixed_utf16_string(s, false);
+        return valued(code, at, contents::text(got));
     }
     refused(contents::not_read(code), at)
-}
-
-// A count, and as many units.
-fn string(c: Cursor, s: &[u8]) -> ContentRead
-    ensures { λ r. ⌜ contentAnswer r ≡ textAt (now (s .entry)) (c .at) ⌝ }
-{
-    match c.len_prefixed_utf16_string(s, false) {
-        Text::Units(v, next) => ContentRead::Read(Content::Text(v), next),
-        Text::Refused(r) => ContentRead::Refused(r),
-    }
 }

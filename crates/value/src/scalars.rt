@@ -6,10 +6,10 @@ use crate::Scalar;
 ghost use mathlib.Core.Path.{_≡_};
 ghost use Prim.Native.Nat.{_≤_};
 ghost use lib.Ieee.{ofBits, binary32, binary64};
-ghost use Rattle.value.specs.Scalar.{bitsOf, signedOf, decoded, unsignedOf, realOf};
+ghost use Rattle.value.specs.Scalar.{decodingAnswer, bitsOf, signedOf, decoded, unsignedOf, realOf};
 
 fn decoded(bits: u64, value: Scalar) -> Decoding
-    ensures { λ r. ⌜ r ≡ decoded bits value ⌝ }
+    ensures { λ r. ⌜ decodingAnswer r ≡ decoded bits value ⌝ }
 {
     Decoding::Number(Decoded {
         bits: bits,
@@ -20,7 +20,7 @@ fn decoded(bits: u64, value: Scalar) -> Decoding
 // `last` is the last number of the width.
 pub(crate) fn signed(bits: u64, last: u64) -> Decoding
     requires { ⌜ bits ≤ last ⌝ }
-    ensures { λ r. ⌜ r ≡ decoded bits (Scalar.Signed (signedOf last bits)) ⌝ }
+    ensures { λ r. ⌜ decodingAnswer r ≡ decoded bits (Scalar.Signed (signedOf last bits)) ⌝ }
 {
     decoded(bits, Scalar::Signed(signed_of(bits, last)))
 }
@@ -37,7 +37,7 @@ fn signed_of(bits: u64, last: u64) -> i64
 }
 
 pub(crate) fn unsigned(code: u8, bytes: &[u8]) -> Decoding
-    ensures { λ r. ⌜ r ≡ unsignedOf code (bitsOf code (now (bytes .entry))) ⌝ }
+    ensures { λ r. ⌜ decodingAnswer r ≡ unsignedOf code (bitsOf code (now (bytes .entry))) ⌝ }
 {
     match code {
         Kind::UINT8 => whole(cursor::u8_at(bytes, 0) as u64),
@@ -50,13 +50,13 @@ pub(crate) fn unsigned(code: u8, bytes: &[u8]) -> Decoding
 }
 
 fn whole(bits: u64) -> Decoding
-    ensures { λ r. ⌜ r ≡ decoded bits (Scalar.Unsigned bits) ⌝ }
+    ensures { λ r. ⌜ decodingAnswer r ≡ decoded bits (Scalar.Unsigned bits) ⌝ }
 {
     decoded(bits, Scalar::Unsigned(bits))
 }
 
 fn real(code: u8, bytes: &[u8]) -> Decoding
-    ensures { λ r. ⌜ r ≡ realOf code (bitsOf code (now (bytes .entry))) ⌝ }
+    ensures { λ r. ⌜ decodingAnswer r ≡ realOf code (bitsOf code (now (bytes .entry))) ⌝ }
 {
     match code {
         Kind::REAL32 => single(cursor::u32_at(bytes, 0)),
@@ -66,13 +66,13 @@ fn real(code: u8, bytes: &[u8]) -> Decoding
 }
 
 fn single(bits: u32) -> Decoding
-    ensures { λ r. ⌜ r ≡ decoded bits (Scalar.Single (ofBits binary32 bits)) ⌝ }
+    ensures { λ r. ⌜ decodingAnswer r ≡ decoded bits (Scalar.Single (ofBits binary32 bits)) ⌝ }
 {
     decoded(bits as u64, Scalar::Single(f32_of(bits)))
 }
 
 fn double(bits: u64) -> Decoding
-    ensures { λ r. ⌜ r ≡ decoded bits (Scalar.Double (ofBits binary64 bits)) ⌝ }
+    ensures { λ r. ⌜ decodingAnswer r ≡ decoded bits (Scalar.Double (ofBits binary64 bits)) ⌝ }
 {
     decoded(bits, Scalar::Double(f64_of(bits)))
 }

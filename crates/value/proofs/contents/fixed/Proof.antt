@@ -4,6 +4,9 @@ use borrow.Author.Needs.{needs}
 use Rattle.value.proofs.contents.fixed.Statement.{statement}
 use Rattle.value.proofs.contents.fixed.Tie as tie
 
+take-bytes-requires : tie.Need-take-bytes-requires
+take-bytes-requires c κs = search needs
+
 bytes-requires : tie.Need-bytes-requires
 bytes-requires c κs = search needs
 
@@ -11,10 +14,11 @@ number-requires : tie.Need-number-requires
 number-requires c κs = search needs
 
 returns : tie.Need-returns
-returns c = simp (eq-eqb _ _ (c .before .if1 .taken), c .bytes .ensures)
+returns c = simp (eq-eqb _ _ (c .before .if1 .taken), c .bytes .ensures, c .before .before .take-bytes .ensures)
 
 returns-2 : tie.Need-returns-2
-returns-2 c = simp (ne-eqb _ _ (c .before .if1 .left), c .number .ensures)
+returns-2 c = simp (ne-eqb _ _ (c .before .if1 .left), c .number .ensures, c .before .before .take-bytes .ensures)
 
 pub fixed-spec : {M : Type 1} → statement M
-fixed-spec = tie.close (tie.spec bytes-requires number-requires returns returns-2)
+fixed-spec =
+    tie.close (tie.spec take-bytes-requires bytes-requires number-requires returns returns-2)

@@ -4,17 +4,23 @@ use borrow.Author.Needs.{needs}
 use Rattle.value.proofs.contents.size_t.Statement.{statement}
 use Rattle.value.proofs.contents.size_t.Tie as tie
 
+take-bytes-requires : tie.Need-take-bytes-requires
+take-bytes-requires c κs = search needs
+
 number-requires : tie.Need-number-requires
 number-requires c κs = search needs
 
 returns : tie.Need-returns
-returns c = simp (c .number .ensures, c .before .if1 .taken)
+returns c = simp (c .number .ensures, c .before .take-bytes .ensures, c .before .before .if1 .taken)
+
+take-bytes-requires-2 : tie.Need-take-bytes-requires-2
+take-bytes-requires-2 c κs = search needs
 
 number-requires-2 : tie.Need-number-requires-2
 number-requires-2 c κs = search needs
 
 returns-2 : tie.Need-returns-2
-returns-2 c = simp (c .number2 .ensures, c .before .if2 .taken)
+returns-2 c = simp (c .number2 .ensures, c .before .take-bytes2 .ensures, c .before .before .if2 .taken)
 
 refused-requires : tie.Need-refused-requires
 refused-requires c κs = search needs
@@ -25,4 +31,12 @@ returns-3 c = simp (ne-eqb _ _ (c .before .before .if1 .left), ne-eqb _ _ (c .be
 pub size-t-spec : {M : Type 1} → statement M
 size-t-spec =
     tie.close
-    (tie.spec number-requires returns number-requires-2 returns-2 refused-requires returns-3)
+    (tie.spec
+    take-bytes-requires
+    number-requires
+    returns
+    take-bytes-requires-2
+    number-requires-2
+    returns-2
+    refused-requires
+    returns-3)

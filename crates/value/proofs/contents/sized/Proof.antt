@@ -1,6 +1,6 @@
--- `sized` meets its contract: what tells its length, a string, a SIZE_T, or the rest. Assumes nothing.
-use borrow.Author.Tests.{eq-eqb, ne-eqb}
+-- `sized` meets its contract: what tells its length, a string, or the rest. Assumes nothing.
 use mathlib.Core.Path.{sym, _∙_}
+use borrow.Author.Tests.{eq-eqb, ne-eqb}
 use borrow.Author.Needs.{needs}
 use Rattle.value.proofs.contents.sized.Statement.{statement}
 use Rattle.value.proofs.contents.sized.Tie as tie
@@ -14,23 +14,20 @@ told-requires c κs = search needs
 returns : tie.Need-returns
 returns c = simp (sym (c .before .before .tells .ensures) ∙ c .before .if1 .taken, c .told .ensures)
 
+utf16-by-char-count-requires : tie.Need-utf16-by-char-count-requires
+utf16-by-char-count-requires c κs = search needs
+
 text-requires : tie.Need-text-requires
 text-requires c κs = search needs
 
 returns-2 : tie.Need-returns-2
-returns-2 c = simp (sym (c .before .before .before .tells .ensures) ∙ c .before .before .if1 .left, eq-eqb _ _ (c .before .if2 .taken), c .text .ensures)
+returns-2 c = simp (sym (c .before .before .before .before .tells .ensures) ∙ c .before .before .before .if1 .left, eq-eqb _ _ (c .before .before .if2 .taken), c .text .ensures, c .before .utf16-by-char-count .ensures)
 
-size-t-requires : tie.Need-size-t-requires
-size-t-requires c κs = search needs
+by-size-requires : tie.Need-by-size-requires
+by-size-requires c κs = search needs
 
 returns-3 : tie.Need-returns-3
-returns-3 c = simp (sym (c .before .before .before .before .tells .ensures) ∙ c .before .before .before .if1 .left, ne-eqb _ _ (c .before .before .if2 .left), eq-eqb _ _ (c .before .if3 .taken), c .size-t .ensures)
-
-sized-bytes-requires : tie.Need-sized-bytes-requires
-sized-bytes-requires c κs = search needs
-
-returns-4 : tie.Need-returns-4
-returns-4 c = simp (sym (c .before .before .before .before .tells .ensures) ∙ c .before .before .before .if1 .left, ne-eqb _ _ (c .before .before .if2 .left), ne-eqb _ _ (c .before .if3 .left), c .sized-bytes .ensures)
+returns-3 c = simp (sym (c .before .before .before .tells .ensures) ∙ c .before .before .if1 .left, ne-eqb _ _ (c .before .if2 .left), c .by-size .ensures)
 
 pub sized-spec : {M : Type 1} → statement M
 sized-spec =
@@ -39,9 +36,8 @@ sized-spec =
     tells-requires
     told-requires
     returns
+    utf16-by-char-count-requires
     text-requires
     returns-2
-    size-t-requires
-    returns-3
-    sized-bytes-requires
-    returns-4)
+    by-size-requires
+    returns-3)

@@ -1,6 +1,6 @@
 -- `told` meets its contract: a width, a SID, or nothing. Assumes nothing.
-use borrow.Author.Tests.{lt-ltb, le-ltb, eq-eqb, ne-eqb}
 use mathlib.Core.Path.{sym}
+use borrow.Author.Tests.{lt-ltb, le-ltb, eq-eqb, ne-eqb}
 use borrow.Author.Needs.{needs}
 use Rattle.value.proofs.contents.told.Statement.{statement}
 use Rattle.value.proofs.contents.told.Tie as tie
@@ -14,15 +14,26 @@ fixed-requires c κs = search needs
 returns : tie.Need-returns
 returns c = simp (sym (c .before .before .width .ensures), lt-ltb _ _ (c .before .if1 .taken), c .fixed .ensures)
 
-sid-requires : tie.Need-sid-requires
-sid-requires c κs = search needs
+read-sid-requires : tie.Need-read-sid-requires
+read-sid-requires c κs = search needs
+
+bytes-requires : tie.Need-bytes-requires
+bytes-requires c κs = search needs
 
 returns-2 : tie.Need-returns-2
-returns-2 c = simp (sym (c .before .before .before .width .ensures), le-ltb _ _ (c .before .before .if1 .left), eq-eqb _ _ (c .before .if2 .taken), c .sid .ensures)
+returns-2 c = simp (sym (c .before .before .before .before .width .ensures), le-ltb _ _ (c .before .before .before .if1 .left), eq-eqb _ _ (c .before .before .if2 .taken), c .bytes .ensures, c .before .read-sid .ensures)
 
 returns-3 : tie.Need-returns-3
 returns-3 c = simp (sym (c .before .before .width .ensures), le-ltb _ _ (c .before .if1 .left), ne-eqb _ _ (c .if2 .left))
 
 pub told-spec : {M : Type 1} → statement M
 told-spec =
-    tie.close (tie.spec width-requires fixed-requires returns sid-requires returns-2 returns-3)
+    tie.close
+    (tie.spec
+    width-requires
+    fixed-requires
+    returns
+    read-sid-requires
+    bytes-requires
+    returns-2
+    returns-3)

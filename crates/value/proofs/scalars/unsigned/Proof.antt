@@ -5,7 +5,7 @@ use mathlib.Core.Logic.{inl, inr}
 use borrow.Author.Tests.{ne-eqb}
 use Rattle.cursor.specs.Reads.{numberOf}
 use Rattle.value.specs.Kinds.{among, widthOf}
-use Rattle.value.specs.Scalar.{bitsOf, decoded, unsignedOf}
+use Rattle.value.specs.Scalar.{decodingAnswer, bitsOf, decoded, unsignedOf}
 use Rattle.value.specs.declared.Scalar.the-variants.{Unsigned}
 use Rattle.value.proofs.Codes.{in-arm}
 use borrow.Author.Needs.{needs}
@@ -67,16 +67,16 @@ unfolding among widthOf bitsOf unsignedOf
 returns-3 c =
     let b = c .before .before .before .before .args .bytes .now in
     let n = numberOf b 0 4 in
-    let e : c .whole3 .result ≡ decoded n (Unsigned n) = simp (c .whole3 .ensures, c .before .u32-at .ensures) in
-    in-arm (λ i. c .whole3 .result ≡ unsignedOf i (bitsOf i b)) (0x08 ∷ 0x0D ∷ 0x14 ∷ []) (e, (e, (e, tt))) (c .before .before .before .before .args .code) (c .before .before .match .keys3)
+    let e : decodingAnswer (c .whole3 .result) ≡ decoded n (Unsigned n) = simp (c .whole3 .ensures, c .before .u32-at .ensures) in
+    in-arm (λ i. decodingAnswer (c .whole3 .result) ≡ unsignedOf i (bitsOf i b)) (0x08 ∷ 0x0D ∷ 0x14 ∷ []) (e, (e, (e, tt))) (c .before .before .before .before .args .code) (c .before .before .match .keys3)
 
 returns-4 : tie.Need-returns-4
 unfolding among widthOf bitsOf unsignedOf
 returns-4 c =
     let b = c .before .before .before .before .args .bytes .now in
     let n = numberOf b 0 8 in
-    let e : c .whole4 .result ≡ decoded n (Unsigned n) = simp (c .whole4 .ensures, c .before .u64-at .ensures) in
-    in-arm (λ i. c .whole4 .result ≡ unsignedOf i (bitsOf i b)) (0x0A ∷ 0x11 ∷ 0x15 ∷ []) (e, (e, (e, tt))) (c .before .before .before .before .args .code) (c .before .before .match .keys4)
+    let e : decodingAnswer (c .whole4 .result) ≡ decoded n (Unsigned n) = simp (c .whole4 .ensures, c .before .u64-at .ensures) in
+    in-arm (λ i. decodingAnswer (c .whole4 .result) ≡ unsignedOf i (bitsOf i b)) (0x0A ∷ 0x11 ∷ 0x15 ∷ []) (e, (e, (e, tt))) (c .before .before .before .before .args .code) (c .before .before .match .keys4)
 
 returns-5 : tie.Need-returns-5
 unfolding among widthOf bitsOf unsignedOf
