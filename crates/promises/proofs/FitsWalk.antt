@@ -1,5 +1,5 @@
 -- Tokens and their walk: what their definitions answer fits in an answer word. Assumes nothing.
-use mathlib.Core.Bool.{Bool, true, false, _||_}
+use mathlib.Core.Bool.{Bool, false}
 use mathlib.Core.List.{List}
 use Prim.Native.Nat.{ℕ, zero, suc, _+_, _-_, _^_, _≤_, _<_}
 use native.Mathlib.Omega.{arith}
@@ -14,11 +14,14 @@ use Rattle.cursor.proofs.Choice.{either}
 use Rattle.name.specs.Name.{nameAt}
 use Rattle.value.specs.Kinds.{knownCode}
 use Rattle.value.specs.Value.{unsizedAt}
-use Rattle.tokens.specs.Token.{typeAt, afterNumber, listSizeAt, afterName, afterSize, afterDependency, openAt, dependencyAt, substitutionAt, textAt, namedAt, valueAt, smallAt, textsAt, namesAt, otherAt}
+use Rattle.tokens.specs.Token.{typeAt, substitutionAt, namedAt, openAt, textTokenAt, valueTokenAt}
 use Rattle.tokens.specs.Instance as I
-use Rattle.tokens.specs.Walk.{Met, handed, header, over, gistAt, headerAt, onByte, turnAt, onward, stepFrom, stepAt, Walked, ok, bad, before, after, walkFrom, walkAt, walkOf}
+use Rattle.tokens.specs.Table.{gistAt}
+use Rattle.tokens.specs.Pieces.{dependencyAt, listSizeAt}
+use Rattle.tokens.specs.Walk.{Met, handed, header, over, headerAt, turnAt, onward, stepFrom, stepAt, Walked, ok, bad, before, after, walkFrom, walkAt, walkOf}
 use Rattle.tokens.specs.declared.Flags.{Flags}
 use Rattle.tokens.specs.declared.Token.{Token}
+use Rattle.tokens.proofs.Table.{by-line}
 use Rattle.tokens.proofs.Reach.{Grows}
 use Rattle.tokens.proofs.Steps.{step-grows}
 use Rattle.promises.specs.Packed.{Bytes}
@@ -36,58 +39,28 @@ module _ (s : List ℕ) (bytes : Bytes s) (short : length s ≤ 65536) where
   named : (inline : Bool) (kind at : ℕ) → at ≤ length s → In (namedAt s inline kind at)
   named inline kind at h = on (length s) (nameAt s at inline) _ (name-fits s bytes short at inline h) (λ x n k. k)
 
-  text : (kind at : ℕ) → at ≤ length s → In (textAt s kind at)
+  text : (kind at : ℕ) → at ≤ length s → In (textTokenAt s kind at)
   text kind at h = on (length s) (prefixedAt s at false) _ (text-fits s bytes short at h) (λ x n k. k)
 
   substitution : (optional : Bool) (at : ℕ) → at ≤ length s → In (substitutionAt s optional at)
   substitution optional at h =
-      number-then s short bytes at 2 (afterNumber s optional) h (λ n m b k. on (length s) (typeAt s m) _ (type-fits m k) (λ x e l. l))
+      number-then s short bytes at 2 _ h (λ n m b k. on (length s) (typeAt s m) _ (type-fits m k) (λ x e l. l))
 
-  token-value : (at : ℕ) → at ≤ length s → In (valueAt s at)
+  token-value : (at : ℕ) → at ≤ length s → In (valueTokenAt s at)
   token-value at h = on (length s) (unsizedAt s at) _ (unsized-fits s bytes short at h) (λ x n k. k)
 
-  list-size : (wide : Bool) (at : ℕ) → at ≤ length s → In (listSizeAt s wide at)
-  list-size wide at h = either In wide _ _ (λ e. number-then s short bytes at 4 _ h (λ x n b k. k)) (λ e. h)
+  list-size : (announced : Bool) (at : ℕ) → at ≤ length s → In (listSizeAt s announced at)
+  list-size announced at h = either In announced _ _ (λ e. read-fits s short at 4 (numberOf s at 4) h) (λ e. h)
 
   dependency : (carried : Bool) (at : ℕ) → at ≤ length s → In (dependencyAt s carried at)
   dependency carried at h = either In carried _ _ (λ e. read-fits s short at 2 (numberOf s at 2) h) (λ e. h)
 
-  opened : (f : Flags) (wide : Bool) (at : ℕ) → at ≤ length s → In (openAt s f wide at)
-  opened f wide at h =
-      on (length s) (dependencyAt s (f .dependencies) at) (afterDependency s (f .inline) wide) (dependency (f .dependencies) at h) (λ d n k.
-      number-then s short bytes n 4 (λ _ next. afterSize s (f .inline) wide d next) k (λ _ m b l.
-      on (length s) (nameAt s m (f .inline)) (afterName s wide d) (name-fits s bytes short m (f .inline) l) (λ x e i.
-      on (length s) (listSizeAt s wide e) _ (list-size wide e i) (λ y z j. j))))
-
-  small : (b at : ℕ) → at ≤ length s → In (smallAt s b at)
-  unfolding smallAt
-  small b at h =
-      either In (eqb b 0x02) _ _ (λ e. h)
-      (λ e. either In (eqb b 0x03) _ _ (λ e. h)
-      (λ e. either In (eqb b 0x04) _ _ (λ e. h)
-      (λ e. either In (eqb b 0x0D) _ _ (λ e. substitution false at h)
-      (λ e. either In (eqb b 0x0E) _ _ (λ e. substitution true at h) (λ e. (omega arith, omega arith))))))
-
-  texts : (b at : ℕ) → at ≤ length s → In (textsAt s b at)
-  unfolding textsAt
-  texts b at h =
-      either In (eqb b 0x07 || eqb b 0x47) _ _ (λ e. text 11 at h)
-      (λ e. either In (eqb b 0x08 || eqb b 0x48) _ _ (λ e. number-then s short bytes at 2 _ h (λ x n c k. k))
-      (λ e. either In (eqb b 0x0B) _ _ (λ e. text 10 at h) (λ e. small b at h)))
-
-  names : (inline : Bool) (b at : ℕ) → at ≤ length s → In (namesAt s inline b at)
-  unfolding namesAt
-  names inline b at h =
-      either In (eqb b 0x06 || eqb b 0x46) _ _ (λ e. named inline 7 at h)
-      (λ e. either In (eqb b 0x09 || eqb b 0x49) _ _ (λ e. named inline 8 at h)
-      (λ e. either In (eqb b 0x0A) _ _ (λ e. named inline 9 at h) (λ e. texts b at h)))
-
-  other : (f : Flags) (b at : ℕ) → at ≤ length s → In (otherAt s f b at)
-  unfolding otherAt
-  other f b at h =
-      either In (eqb b 0x01) _ _ (λ e. opened f false at h)
-      (λ e. either In (eqb b 0x41) _ _ (λ e. opened f true at h)
-      (λ e. either In (eqb b 0x05 || eqb b 0x45) _ _ (λ e. token-value at h) (λ e. names (f .inline) b at h)))
+  opened : (f : Flags) (announced : Bool) (at : ℕ) → at ≤ length s → In (openAt s f announced at)
+  opened f announced at h =
+      on (length s) (dependencyAt s (f .dependencies) at) _ (dependency (f .dependencies) at h) (λ d n k.
+      number-then s short bytes n 4 _ k (λ _ m b l.
+      on (length s) (nameAt s m (f .inline)) _ (name-fits s bytes short m (f .inline) l) (λ x e i.
+      on (length s) (listSizeAt s announced e) _ (list-size announced e i) (λ y z j. j))))
 
   -- the instance
   descriptor : (at : ℕ) → at ≤ length s → In (I.descriptorAt s at)
@@ -115,23 +88,24 @@ module _ (s : List ℕ) (bytes : Bytes s) (short : length s ≤ 65536) where
   definition offset at h =
       either In (eqb at offset) _ _
       (λ e. number-then s short bytes at 4 _ h (λ x n b k.
-      on (length s) (takeAt s n 16) (I.afterBytes s) (read-fits s short n 16 (record { start = n; len = 16 }) k) (λ g m l.
-      number-then s short bytes m 4 (I.skipped s g) l (λ size z c i.
+      on (length s) (takeAt s n 16) _ (read-fits s short n 16 (record { start = n; len = 16 }) k) (λ g m l.
+      number-then s short bytes m 4 _ l (λ size z c i.
       on (length s) (setTo s (z + size)) _ (set-fits s short (z + size) (omega arith)) (λ y u j. j)))))
       (λ e. h)
 
-  after-guid : (id offset : ℕ) (g : Part) (at : ℕ) → at ≤ length s → In (I.afterGuid s id offset g at)
-  after-guid id offset g at h =
-      number-then s short bytes at 4 (I.afterCount s id offset g) h (λ count n b k.
-      on (length s) (I.tableAt s n count) _ (table count n k) (λ x m l.
-      on (length s) (I.valuesAt s n m count) _ (values count n m l) (λ y e i. i)))
+  head : (at : ℕ) → at ≤ length s → In (I.instanceHeadAt s at)
+  head at h =
+      number-then s short bytes at 1 _ h (λ x n b k.
+      number-then s short bytes n 4 _ k (λ id m c l.
+      number-then s short bytes m 4 _ l (λ offset e d i.
+      on (length s) (I.definitionAt s offset e) _ (definition offset e i) (λ g z j.
+      number-then s short bytes z 4 _ j (λ count t y p.
+      on (length s) (I.tableAt s t count) _ (table count t p) (λ u v q. q))))))
 
   whole-instance : (at : ℕ) → at ≤ length s → In (I.instanceAt s at)
   whole-instance at h =
-      number-then s short bytes at 1 _ h (λ x n b k.
-      number-then s short bytes n 4 (I.afterId s) k (λ id m c l.
-      number-then s short bytes m 4 (I.afterOffset s id) l (λ offset e d i.
-      on (length s) (I.definitionAt s offset e) (I.afterGuid s id offset) (definition offset e i) (λ g z j. after-guid id offset g z j))))
+      on (length s) (I.instanceHeadAt s at) _ (head at h) (λ i n k.
+      on (length s) (I.valuesAt s (i .table) n (i .count)) _ (values (i .count) (i .table) n k) (λ y e l. l))
 
   -- a turn and a step
   header-fits : (at : ℕ) → at ≤ length s → In (headerAt s at)
@@ -139,13 +113,24 @@ module _ (s : List ℕ) (bytes : Bytes s) (short : length s ≤ 65536) where
       number-then s short bytes at 1 _ h (λ x n b k. number-then s short bytes n 1 _ k (λ y m c l. number-then s short bytes m 1 _ l (λ z e d i. i)))
 
   gist-fits : (f : Flags) (b at : ℕ) → at ≤ length s → In (gistAt s f b at)
-  gist-fits f b at h = either In (eqb b 0x0C) _ _ (λ e. whole-instance at h) (λ e. other f b at h)
+  gist-fits f b at h =
+      by-line In s f b at (record {
+        instance = whole-instance at h;
+        opened = λ announced. opened f announced at h;
+        bare = λ kind l k. h;
+        value = token-value at h;
+        named = λ kind l k. named (f .inline) kind at h;
+        text = λ kind l k. text kind at h;
+        char = number-then s short bytes at 2 _ h (λ x n c k. k);
+        substitution = λ optional. substitution optional at h;
+        unknown = (omega arith, omega arith);
+      })
 
   turn-fits : (end : ℕ) (f : Flags) (at : ℕ) → at ≤ length s → In (turnAt s end f at)
   unfolding turnAt
   turn-fits end f at h =
       either In (ltb at end) _ _
-      (λ w. number-then s short bytes at 1 (onByte s f at) h (λ b n c k.
+      (λ w. number-then s short bytes at 1 _ h (λ b n c k.
       either In (eqb b 0x00) _ _ (λ e. k)
       (λ e. either In (eqb b 0x0F) _ _
       (λ e. on (length s) (headerAt s n) _ (header-fits n k) (λ x m l. l))

@@ -1,9 +1,19 @@
 -- `tokens`: each public call allows one answer. Assumes nothing.
 use mathlib.Core.Path.{_≡_, refl, sym, _∙_}
-use Rattle.cursor.specs.Answer.{Answer, given, refused}
+use mathlib.Core.Bool.{Bool, true, false}
+use Prim.Native.Nat.{ℕ}
+use Rattle.cursor.specs.Answer.{Answer, given, refused, Result, gives, refuses, Maybe, just, nothing}
+use Rattle.tokens.specs.Instance.{ValueNext, nextAnswer}
+use Rattle.tokens.specs.Single.{singleAnswer, endsAnswer}
 use Rattle.tokens.specs.Walk.{Met, handed, header, over, stepAnswer}
 use Rattle.tokens.specs.declared.Stepped.{Stepped}
 use Rattle.tokens.specs.declared.Stepped.the-variants as S
+use Rattle.tokens.specs.declared.NextValue.{NextValue}
+use Rattle.tokens.specs.declared.NextValue.the-variants as N
+use Rattle.tokens.specs.declared.SingleInstance.{SingleInstance}
+use Rattle.tokens.specs.declared.SingleInstance.the-variants as I
+use Rattle.tokens.specs.declared.Ends.{Ends}
+use Rattle.tokens.specs.declared.Ends.the-variants as E
 use Rattle.tokens.proofs.step.Kinds as stepK
 use Rattle.tokens.proofs.step.Reads as stepR
 use Rattle.tokens.proofs.count.Kinds as countK
@@ -42,11 +52,39 @@ count κs a x y s t p q = p ∙ sym q
 pub of : Single 0 ofK.ps ofK.r ofR.Post
 of κs a x y s t p q = p ∙ sym q
 
+abbrev nextBack : Result (Maybe ValueNext) → NextValue
+nextBack (gives (just x)) = N.Value (x .value) (x .size) (x .rest)
+nextBack (gives nothing) = N.Done
+nextBack (refuses k p) = N.Refused (record { number = k; place = p })
+
 pub next : Single 1 nextK.ps nextK.r nextR.Post
-next κs a x y s t p q = p ∙ sym q
+next κs a x y s t p q = read-back nextAnswer nextBack back x y _ p q
+  where
+    back : (x : NextValue) → nextBack (nextAnswer x) ≡ x
+    back (N.Value v size rest) = refl
+    back N.Done = refl
+    back (N.Refused r) = refl
+
+abbrev singleBack : Maybe ℕ → SingleInstance
+singleBack (just n) = I.At n
+singleBack nothing = I.Nothing
 
 pub single-instance-offset : Single 1 singleK.ps singleK.r singleR.Post
-single-instance-offset κs a x y s t p q = p ∙ sym q
+single-instance-offset κs a x y s t p q = read-back singleAnswer singleBack back x y _ p q
+  where
+    back : (x : SingleInstance) → singleBack (singleAnswer x) ≡ x
+    back (I.At n) = refl
+    back I.Nothing = refl
+
+abbrev endsBack : Maybe Bool → Ends
+endsBack (just true) = E.Yes
+endsBack (just false) = E.No
+endsBack nothing = E.Beyond
 
 pub ends-stream : Single 1 endsK.ps endsK.r endsR.Post
-ends-stream κs a x y s t p q = p ∙ sym q
+ends-stream κs a x y s t p q = read-back endsAnswer endsBack back x y _ p q
+  where
+    back : (x : Ends) → endsBack (endsAnswer x) ≡ x
+    back E.Yes = refl
+    back E.No = refl
+    back E.Beyond = refl

@@ -15,7 +15,7 @@ use Rattle.cursor.proofs.Choice.{either}
 use Rattle.record.specs.Chunk.{fieldsAt, chunkSize, chunkMagic}
 use Rattle.record.specs.declared.Fields.{Fields}
 use Rattle.tokens.specs.Instance.{tableAt, valuesAt}
-use Rattle.tokens.specs.Token.{otherAt}
+use Rattle.tokens.specs.Table.{gistAt}
 use Rattle.tokens.specs.Walk.{Walked, ok, bad, turnAt, stepFrom, walkFrom, walkOf}
 use Rattle.tokens.specs.declared.Flags.{Flags}
 use Rattle.tokens.specs.declared.Token.{Token}
@@ -126,5 +126,5 @@ list-told s recovery lent left word (c, (e, x)) =
 
 -- places past 2^32 are met, so that 32 bits would not do
 pub far-place : unpackedOf (packedOf (sheetAnswer (walkOf farStream 0 34 (flagsOf 0 0)) [])) ≡ C.Refused (record { number = 2; place = 2 ^ 32 + 33 })
-unfolding little otherAt tableAt valuesAt turnAt stepFrom walkFrom walkOf
+unfolding little gistAt tableAt valuesAt turnAt stepFrom walkFrom walkOf
 far-place = refl

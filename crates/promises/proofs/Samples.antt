@@ -10,7 +10,7 @@ use Rattle.value.specs.Kinds.{among, knownCode, widthOf}
 use Rattle.value.specs.Value.{sizedAt, unsizedAt}
 use Rattle.tokens.specs.Instance.{tableAt, valuesAt}
 use Rattle.tokens.specs.Single.{singleOf}
-use Rattle.tokens.specs.Token.{smallAt, textsAt, namesAt, otherAt}
+use Rattle.tokens.specs.Table.{gistAt}
 use Rattle.tokens.specs.Walk.{Walked, turnAt, stepFrom, walkFrom, walkOf}
 use Rattle.body.specs.Verdict.{Answered}
 use Rattle.body.specs.Reader.{opening, step, ended, outcome, wordsFrom}
@@ -26,6 +26,6 @@ a-body : (w : Walked) (lent : List ℕ) (r : Counted) (left : List ℕ) → answ
 a-body w lent r left e f = subst (λ (l : List ℕ). Answered lent l w r) f (subst (Answered lent (leftOf w lent) w) e (answer-holds w lent))
 
 pub all-samples : All samples
-unfolding samples little unitsOf beforeZero hashFrom among knownCode widthOf sizedAt unsizedAt tableAt valuesAt singleOf smallAt textsAt namesAt otherAt turnAt stepFrom walkFrom walkOf opening step ended outcome wordsFrom
+unfolding samples little unitsOf beforeZero hashFrom among knownCode widthOf sizedAt unsizedAt tableAt valuesAt singleOf gistAt turnAt stepFrom walkFrom walkOf opening step ended outcome wordsFrom
 all-samples =
     refl and a-body _ _ _ _ refl refl and refl and a-body _ _ _ _ refl refl and refl and refl and refl and a-body _ _ _ _ refl refl and a-body _ _ _ _ refl refl and refl and refl and refl and a-body _ _ _ _ refl refl and refl and refl and refl and a-body _ _ _ _ refl refl and refl and refl and refl and refl and refl and refl and tt {0}

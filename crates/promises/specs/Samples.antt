@@ -4,7 +4,7 @@ use mathlib.Core.Bool.{Bool, true, false}
 use mathlib.Core.List.{List, [], _∷_}
 use Prim.Native.Nat.{ℕ}
 use lib.ListN.{length}
-use Rattle.cursor.specs.Answer.{Answer, given, refused}
+use Rattle.cursor.specs.Answer.{Answer, given, refused, Maybe, just, nothing}
 use Rattle.cursor.specs.Text.{unitsOf}
 use Rattle.cursor.specs.declared.Counted.{Counted}
 use Rattle.cursor.specs.declared.Counted.the-variants as C
@@ -15,8 +15,6 @@ use Rattle.tokens.specs.Single.{singleOf}
 use Rattle.tokens.specs.Walk.{Walked, ok, bad, walkOf}
 use Rattle.tokens.specs.declared.Held.{Held}
 use Rattle.tokens.specs.declared.Held.the-variants as H
-use Rattle.tokens.specs.declared.Single.{Single}
-use Rattle.tokens.specs.declared.Single.the-variants as S
 use Rattle.tokens.specs.declared.Token.{Token}
 use Rattle.sheet.specs.Sheet.{wordsOf}
 use Rattle.body.specs.Verdict.{Answered}
@@ -74,7 +72,7 @@ pub data Sample : Type 0 where
   -- "hash": of the units of these bytes
   hashes : List ℕ → ℕ → Sample
   -- "single instance offset"
-  singles : List ℕ → Single → Sample
+  singles : List ℕ → Maybe ℕ → Sample
 
 abbrev pub Holds : Sample → Type 0
 Holds (reads x want) = givenOf (walkOn x) ≡ want
@@ -137,7 +135,7 @@ samples =
     -- "that with size 3, type 86: 10 at 18"
     reads (whole (anInstance 3 0x86 (0x2A ∷ 0 ∷ 0 ∷ 0 ∷ []))) (stopped 10 18) ∷
     -- "single instance offset: `0F 01 01 00 0C` none; a sixth byte: 5; `0C`: 1"
-    singles (0x0F ∷ 1 ∷ 1 ∷ 0 ∷ 0x0C ∷ []) S.Nothing ∷
-    singles (0x0F ∷ 1 ∷ 1 ∷ 0 ∷ 0x0C ∷ 0 ∷ []) (S.At 5) ∷
-    singles (0x0C ∷ []) (S.At 1) ∷
+    singles (0x0F ∷ 1 ∷ 1 ∷ 0 ∷ 0x0C ∷ []) nothing ∷
+    singles (0x0F ∷ 1 ∷ 1 ∷ 0 ∷ 0x0C ∷ 0 ∷ []) (just 5) ∷
+    singles (0x0C ∷ []) (just 1) ∷
     []

@@ -1,19 +1,16 @@
 -- The single instance, the owner table and the C calls. docs/ANSWERS.md, modes S, O and C.
 use mathlib.Core.Path.{_≡_}
+use mathlib.Core.Bool.{Bool, true, false}
 use mathlib.Core.List.{List, [], _∷_, _++_}
 use Prim.Native.Nat.{ℕ}
 use lib.Dec.{leb}
 use lib.ListN.{take, drop, replicate}
-use Rattle.cursor.specs.Answer.{pick}
+use Rattle.cursor.specs.Answer.{pick, Maybe, just, nothing}
 use Rattle.cursor.specs.Reads.{numberOf}
 use Rattle.cursor.specs.declared.Counted.{Counted}
 use Rattle.cursor.specs.declared.Counted.the-variants as C
 use Rattle.tokens.specs.Single.{singleOf, endsOf}
 use Rattle.tokens.specs.Walk.{Walked, walkOf}
-use Rattle.tokens.specs.declared.Single.{Single}
-use Rattle.tokens.specs.declared.Single.the-variants.{At, Nothing}
-use Rattle.tokens.specs.declared.Ends.{Ends}
-use Rattle.tokens.specs.declared.Ends.the-variants.{Yes, No, Beyond}
 use Rattle.sheet.specs.Sheet.{sheetAnswer, sheetWords}
 use Rattle.body.specs.Verdict.{Answered}
 use Rattle.doortumble.specs.Calls.{packedOf, OwnersPacked}
@@ -21,15 +18,15 @@ use Rattle.stream_answers.specs.declared.Asked.{Asked}
 use Rattle.print.specs.Text.{ascii, each, hexWord, spacedWord, spacedHalf, lineOf, refusedOf}
 
 -- "`single` offset or `single none`"
-abbrev pub singleText : Single → List ℕ
-singleText (At n) = lineOf (ascii "single") (n ∷ [])
-singleText Nothing = ascii "single none\n"
+abbrev pub singleText : Maybe ℕ → List ℕ
+singleText (just n) = lineOf (ascii "single") (n ∷ [])
+singleText nothing = ascii "single none\n"
 
 -- "`ends yes`, `ends no` or `ends none`"
-abbrev pub endsText : Ends → List ℕ
-endsText Yes = ascii "ends yes\n"
-endsText No = ascii "ends no\n"
-endsText Beyond = ascii "ends none\n"
+abbrev pub endsText : Maybe Bool → List ℕ
+endsText (just true) = ascii "ends yes\n"
+endsText (just false) = ascii "ends no\n"
+endsText nothing = ascii "ends none\n"
 
 -- S: "data is the stream, `start` is how much was consumed"
 abbrev pub singleLines : List ℕ → ℕ → List ℕ

@@ -2,15 +2,13 @@
 use mathlib.Core.List.{List, [], _++_}
 use Prim.Native.Nat.{ℕ, zero, suc, _+_}
 use lib.Dec.{eqb}
-use Rattle.cursor.specs.Answer.{pick}
+use Rattle.cursor.specs.Answer.{pick, Result, gives, refuses, Maybe, just, nothing}
 use Rattle.cursor.specs.Reads.{partOf}
 use Rattle.tokens.specs.Token.{openKind, charRefKind, substitutionKind}
-use Rattle.tokens.specs.Instance.{valuesOf, nextOf}
+use Rattle.tokens.specs.Instance.{valuesOf, ValueNext, nextOf}
 use Rattle.tokens.specs.declared.Held.{Held}
 use Rattle.tokens.specs.declared.Held.the-variants as H
 use Rattle.tokens.specs.declared.Instance.{Instance}
-use Rattle.tokens.specs.declared.NextValue.{NextValue}
-use Rattle.tokens.specs.declared.NextValue.the-variants as N
 use Rattle.tokens.specs.declared.Token.{Token}
 use Rattle.tokens.specs.declared.Values.{Values}
 use Rattle.sheet.specs.Sheet.{flagBit}
@@ -18,10 +16,10 @@ use Rattle.print.specs.Text.{ascii, decimalOf, spacedNumber}
 use Rattle.stream_answers.specs.Content.{sizedText, sizelessText, bytesField}
 
 -- "for each value a field type:size:start:next:content"; the next value's place is where the value's read ends
-abbrev pub nextText : List ℕ → NextValue → (Values → List ℕ) → List ℕ
-nextText s (N.Value v size next) go = sizedText s v size (next .at) ++ go next
-nextText s N.Done go = []
-nextText s (N.Refused r) go = []
+abbrev pub nextText : List ℕ → Result (Maybe ValueNext) → (Values → List ℕ) → List ℕ
+nextText s (gives (just x)) go = sizedText s (x .value) (x .size) (x .rest .at) ++ go (x .rest)
+nextText s (gives nothing) go = []
+nextText s (refuses k p) go = []
 
 -- so many values are left
 unfoldable pub valuesFrom : ℕ → List ℕ → Values → List ℕ

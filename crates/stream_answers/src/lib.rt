@@ -8,8 +8,9 @@ mod token;
 use cursor::Counted;
 use tokens::Ends;
 use tokens::Flags;
-use tokens::Single;
+use tokens::SingleInstance;
 ghost use Prim.Native.Nat.{_-_, _^_};
+ghost use Rattle.tokens.specs.Single.{singleAnswer, endsAnswer};
 ghost use Rattle.print.specs.Text.{ascii, Puts, PutsSome, lineOf};
 ghost use Rattle.stream_answers.specs.Walk.{walkText};
 ghost use Rattle.stream_answers.specs.Modes.{askedWalk, singleText, endsText, singleLines, OwnersSaid, sheetText, OwnersCalled, lentWords, streamOf};
@@ -49,17 +50,17 @@ pub fn single(out: &mut [u8], at: usize, s: &[u8], consumed: usize) -> usize
     ends_line(out, a, tokens::ends_stream(s, consumed))
 }
 
-fn start_line(out: &mut [u8], at: usize, found: Single) -> usize
-    ensures { λ r. ⌜ Puts (singleText found) (now (out .entry)) at (now (out .exit)) r ⌝ }
+fn start_line(out: &mut [u8], at: usize, found: SingleInstance) -> usize
+    ensures { λ r. ⌜ Puts (singleText (singleAnswer found)) (now (out .entry)) at (now (out .exit)) r ⌝ }
 {
     match found {
-        Single::At(n) => print::line(out, at, b"single", &[n as u64]),
-        Single::Nothing => print::text(out, at, b"single none\n"),
+        SingleInstance::At(n) => print::line(out, at, b"single", &[n as u64]),
+        SingleInstance::Nothing => print::text(out, at, b"single none\n"),
     }
 }
 
 fn ends_line(out: &mut [u8], at: usize, e: Ends) -> usize
-    ensures { λ r. ⌜ Puts (endsText e) (now (out .entry)) at (now (out .exit)) r ⌝ }
+    ensures { λ r. ⌜ Puts (endsText (endsAnswer e)) (now (out .entry)) at (now (out .exit)) r ⌝ }
 {
     match e {
         Ends::Yes => print::text(out, at, b"ends yes\n"),

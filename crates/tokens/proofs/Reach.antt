@@ -1,16 +1,15 @@
 -- Where a token ends: after its byte, and within the stream. Assumes nothing.
 use mathlib.Core.Path.{_≡_, refl, subst}
-use mathlib.Core.Bool.{Bool, true, false, _||_}
+use mathlib.Core.Bool.{Bool, false}
 use mathlib.Core.List.{List}
 use Prim.Native.Nat.{ℕ, zero, suc, _+_, _-_, _*_, _≤_, _<_}
 use native.Mathlib.Omega.{arith}
 use borrow.Author.Tests.{leb-true}
 use lib.Dec.{eqb, leb, ltb}
 use lib.ListN.{length, drop, length-drop}
-use Rattle.cursor.specs.Answer.{Answer, given, refused, _then_}
+use Rattle.cursor.specs.Answer.{Answer, given, refused, _then_, pick}
 use Rattle.cursor.specs.Reads.{within, numberOf, numberAt, takeAt}
 use Rattle.cursor.specs.Text.{prefixedAt}
-use Rattle.cursor.specs.declared.Part.{Part}
 use Rattle.cursor.proofs.Choice.{either, tested}
 use Rattle.name.specs.Hash.{hashOf}
 use Rattle.name.specs.Name as N
@@ -21,11 +20,14 @@ use Rattle.value.specs.Value.{unsizedAt}
 use Rattle.value.specs.declared.Value.{Value}
 use Rattle.value.proofs.Bounds.{Between, read-between, counted-between}
 use Rattle.value.proofs.Stands.{Stands, sized-stands, unsized-stands}
-use Rattle.tokens.specs.Token.{typeAt, afterNumber, listSizeAt, afterName, afterSize, afterDependency, openAt, dependencyAt, substitutionAt, textAt, namedAt, valueAt, smallAt, textsAt, namesAt, otherAt}
+use Rattle.tokens.specs.Token.{typeAt, substitutionAt, namedAt, openAt, textTokenAt, valueTokenAt}
 use Rattle.tokens.specs.Instance as I
-use Rattle.tokens.specs.Walk.{Met, handed, header, over, EndsAfter, placed, gistAt, headerAt, headed, onByte, turnAt}
+use Rattle.tokens.specs.Table.{gistAt}
+use Rattle.tokens.specs.Walk.{Met, handed, header, over, headerAt, turnAt}
+use Rattle.tokens.specs.Pieces.{EndsAfter, dependencyAt, listSizeAt, metToken, metHeader, turnAfterByte}
 use Rattle.tokens.specs.declared.Flags.{Flags}
 use Rattle.tokens.specs.declared.plain.Gist.{Gist}
+use Rattle.tokens.proofs.Table.{by-line}
 use Rattle.tokens.proofs.Kinded.{Kinded, gist-kinded}
 
 lower : {A : Type 0} (low n high : ℕ) (a : Answer A) → low ≤ n → Between n high a → Between low high a
@@ -93,70 +95,33 @@ module _ (s : List ℕ) where
   named : (inline : Bool) (kind at : ℕ) → Between at (length s) (namedAt s inline kind at)
   named inline kind at = on at (length s) (N.nameAt s at inline) _ (name at inline) (λ x n h. (omega arith, h))
 
-  text : (kind at : ℕ) → Between at (length s) (textAt s kind at)
+  text : (kind at : ℕ) → Between at (length s) (textTokenAt s kind at)
   text kind at =
       on at (length s) (prefixedAt s at false) _ (then-number at 2 _ (λ n m h. counted-between s m n)) (λ x n h. (omega arith, h))
 
   substitution : (optional : Bool) (at : ℕ) → Between at (length s) (substitutionAt s optional at)
   substitution optional at =
-      then-number at 2 (afterNumber s optional) (λ n m h. on m (length s) (typeAt s m) _ (type-ends m) (λ x e l. (omega arith, l)))
+      then-number at 2 _ (λ n m h. on m (length s) (typeAt s m) _ (type-ends m) (λ x e l. (omega arith, l)))
 
   stands : (low high : ℕ) (a : Answer Value) → Stands (low + 1) high a → Between low high a
   stands low high (given v n) h = (omega (arith, h .1), h .2)
   stands low high (refused k p) h = tt {0}
 
-  token-value : (at : ℕ) → Between at (length s) (valueAt s at)
+  token-value : (at : ℕ) → Between at (length s) (valueTokenAt s at)
   token-value at =
       on at (length s) (unsizedAt s at) _ (stands at (length s) (unsizedAt s at) (unsized-stands s at)) (λ x n h. (omega arith, h))
 
-  list-size : (wide : Bool) (at : ℕ) → at ≤ length s → Between at (length s) (listSizeAt s wide at)
-  list-size wide at h =
-      either (Between at (length s)) wide _ _ (λ e. then-number at 4 _ (λ x n k. (omega arith, k))) (λ e. (omega arith, h))
+  -- a number that stands there, or is not read
+  if-number : (there : Bool) (w other at : ℕ) → at ≤ length s → Between at (length s) (pick there (numberAt s at w) (given other at))
+  if-number there w other at h =
+      either (Between at (length s)) there _ _ (λ e. read-between s at w (numberOf s at w)) (λ e. (omega arith, h))
 
-  dependency : (carried : Bool) (at : ℕ) → at ≤ length s → Between at (length s) (dependencyAt s carried at)
-  dependency carried at h =
-      either (Between at (length s)) carried _ _ (λ e. read-between s at 2 (numberOf s at 2)) (λ e. (omega arith, h))
-
-  opened : (f : Flags) (wide : Bool) (at : ℕ) → at ≤ length s → Between at (length s) (openAt s f wide at)
-  opened f wide at h =
-      on at (length s) (dependencyAt s (f .dependencies) at) (afterDependency s (f .inline) wide) (dependency (f .dependencies) at h) (λ d n k.
-      then-number n 4 (λ _ next. afterSize s (f .inline) wide d next) (λ _ m l.
-      on m (length s) (N.nameAt s m (f .inline)) (afterName s wide d) (name m (f .inline)) (λ x e i.
-      on e (length s) (listSizeAt s wide e) _ (list-size wide e i) (λ y z j. (omega arith, j)))))
-
-  small : (b at : ℕ) → at ≤ length s → Between at (length s) (smallAt s b at)
-  unfolding smallAt
-  small b at h =
-      let P = Between {A = Gist} at (length s) in
-      either P (eqb b 0x02) _ _ (λ e. (omega arith, h))
-      (λ e. either P (eqb b 0x03) _ _ (λ e. (omega arith, h))
-      (λ e. either P (eqb b 0x04) _ _ (λ e. (omega arith, h))
-      (λ e. either P (eqb b 0x0D) _ _ (λ e. substitution false at)
-      (λ e. either P (eqb b 0x0E) _ _ (λ e. substitution true at) (λ e. tt {0})))))
-
-  texts : (b at : ℕ) → at ≤ length s → Between at (length s) (textsAt s b at)
-  unfolding textsAt
-  texts b at h =
-      let P = Between {A = Gist} at (length s) in
-      either P (eqb b 0x07 || eqb b 0x47) _ _ (λ e. text 11 at)
-      (λ e. either P (eqb b 0x08 || eqb b 0x48) _ _ (λ e. then-number at 2 _ (λ x n k. (omega arith, k)))
-      (λ e. either P (eqb b 0x0B) _ _ (λ e. text 10 at) (λ e. small b at h)))
-
-  names : (inline : Bool) (b at : ℕ) → at ≤ length s → Between at (length s) (namesAt s inline b at)
-  unfolding namesAt
-  names inline b at h =
-      let P = Between {A = Gist} at (length s) in
-      either P (eqb b 0x06 || eqb b 0x46) _ _ (λ e. named inline 7 at)
-      (λ e. either P (eqb b 0x09 || eqb b 0x49) _ _ (λ e. named inline 8 at)
-      (λ e. either P (eqb b 0x0A) _ _ (λ e. named inline 9 at) (λ e. texts b at h)))
-
-  other : (f : Flags) (b at : ℕ) → at ≤ length s → Between at (length s) (otherAt s f b at)
-  unfolding otherAt
-  other f b at h =
-      let P = Between {A = Gist} at (length s) in
-      either P (eqb b 0x01) _ _ (λ e. opened f false at h)
-      (λ e. either P (eqb b 0x41) _ _ (λ e. opened f true at h)
-      (λ e. either P (eqb b 0x05 || eqb b 0x45) _ _ (λ e. token-value at) (λ e. names (f .inline) b at h)))
+  opened : (f : Flags) (announced : Bool) (at : ℕ) → at ≤ length s → Between at (length s) (openAt s f announced at)
+  opened f announced at h =
+      on at (length s) (dependencyAt s (f .dependencies) at) _ (if-number (f .dependencies) 2 0xFFFF at h) (λ d n k.
+      then-number n 4 _ (λ _ m l.
+      on m (length s) (N.nameAt s m (f .inline)) _ (name m (f .inline)) (λ x e i.
+      on e (length s) (listSizeAt s announced e) _ (if-number announced 4 0 e i) (λ y z j. (omega arith, j)))))
 
   -- the instance
   descriptor : (at : ℕ) → Between at (length s) (I.descriptorAt s at)
@@ -187,28 +152,40 @@ module _ (s : List ℕ) where
   definition offset at h =
       either (Between at (length s)) (eqb at offset) _ _
       (λ e. then-number at 4 _ (λ x n k.
-      on n (length s) (takeAt s n 16) (I.afterBytes s) (read-between s n 16 (record { start = n; len = 16 })) (λ g m l.
-      then-number m 4 (I.skipped s g) (λ size z i.
+      on n (length s) (takeAt s n 16) _ (read-between s n 16 (record { start = n; len = 16 })) (λ g m l.
+      then-number m 4 _ (λ size z i.
       either (λ a. Between z (length s) (a then λ _ next. given g next)) (leb (z + size) (length s)) _ _
       (λ w. (omega arith, leb-true (z + size) (length s) w))
       (λ w. tt {0})))))
       (λ e. (omega arith, h))
 
-  after-guid : (id offset : ℕ) (g : Part) (at : ℕ) → Between at (length s) (I.afterGuid s id offset g at)
-  after-guid id offset g at =
-      then-number at 4 (I.afterCount s id offset g) (λ count n h.
-      on n (length s) (I.tableAt s n count) _ (table count n h) (λ x m k.
-      on m (length s) (I.valuesAt s n m count) _ (values count n m k) (λ y e l. (omega arith, l))))
+  head : (at : ℕ) → Between at (length s) (I.instanceHeadAt s at)
+  head at =
+      then-number at 1 _ (λ x n h.
+      then-number n 4 _ (λ id m k.
+      then-number m 4 _ (λ offset e l.
+      on e (length s) (I.definitionAt s offset e) _ (definition offset e l) (λ g z i.
+      then-number z 4 _ (λ count t j.
+      on t (length s) (I.tableAt s t count) _ (table count t j) (λ y v p. (omega arith, p)))))))
 
   whole-instance : (at : ℕ) → Between at (length s) (I.instanceAt s at)
   whole-instance at =
-      then-number at 1 _ (λ x n h.
-      then-number n 4 (I.afterId s) (λ id m k.
-      then-number m 4 (I.afterOffset s id) (λ offset e l.
-      on e (length s) (I.definitionAt s offset e) (I.afterGuid s id offset) (definition offset e l) (λ g z i. after-guid id offset g z))))
+      on at (length s) (I.instanceHeadAt s at) _ (head at) (λ i n h.
+      on n (length s) (I.valuesAt s (i .table) n (i .count)) _ (values (i .count) (i .table) n h) (λ y e l. (omega arith, l)))
 
   pub gist-ends : (f : Flags) (b at : ℕ) → at ≤ length s → Between at (length s) (gistAt s f b at)
-  gist-ends f b at h = either (Between at (length s)) (eqb b 0x0C) _ _ (λ e. whole-instance at) (λ e. other f b at h)
+  gist-ends f b at h =
+      by-line (Between at (length s)) s f b at (record {
+        instance = whole-instance at;
+        opened = λ announced. opened f announced at h;
+        bare = λ kind l k. (omega arith, h);
+        value = token-value at;
+        named = λ kind l k. named (f .inline) kind at;
+        text = λ kind l k. text kind at;
+        char = then-number at 2 _ (λ x n k. (omega arith, k));
+        substitution = λ optional. substitution optional at;
+        unknown = tt {0};
+      })
 
   header-ends : (at : ℕ) → Between at (length s) (headerAt s at)
   header-ends at = then-number at 1 _ (λ x n h. then-number n 1 _ (λ y m k. then-number m 1 _ (λ z e l. (omega arith, l))))
@@ -233,15 +210,15 @@ Grows at high (given header n) = (at < n) × (n ≤ high)
 Grows at high (given over n) = Unit {0}
 Grows at high (refused k p) = Unit {0}
 
-header-grows : (place high : ℕ) (a : Answer Unit) → Between (place + 1) high a → Grows place high (headed a)
+header-grows : (place high : ℕ) (a : Answer Unit) → Between (place + 1) high a → Grows place high (metHeader a)
 header-grows place high (given x n) h = (omega (arith, h .0), h .1)
 header-grows place high (refused k p) h = tt {0}
 
-placed-grows : (place high : ℕ) (a : Answer Gist) → Between (place + 1) high a → Kinded a → Grows place high (placed place a)
+placed-grows : (place high : ℕ) (a : Answer Gist) → Between (place + 1) high a → Kinded a → Grows place high (metToken place a)
 placed-grows place high (given g n) h k = (omega arith, omega (arith, h .0), h .1, omega (arith, h .0), k .0, k .1)
 placed-grows place high (refused k p) h i = tt {0}
 
-byte-grows : (s : List ℕ) (f : Flags) (place b : ℕ) → place + 1 ≤ length s → Grows place (length s) (onByte s f place b (place + 1))
+byte-grows : (s : List ℕ) (f : Flags) (place b : ℕ) → place + 1 ≤ length s → Grows place (length s) (turnAfterByte s f place b (place + 1))
 byte-grows s f place b h =
     let P = Grows place (length s) in
     either P (eqb b 0x00) _ _ (λ e. tt {0})
@@ -253,7 +230,7 @@ pub turn-grows : (s : List ℕ) (end : ℕ) (f : Flags) (at : ℕ) → Grows at 
 unfolding turnAt
 turn-grows s end f at =
     either (Grows at (length s)) (ltb at end) _ _
-    (λ w. either (λ a. Grows at (length s) (a then onByte s f at)) (within s at 1) _ _
+    (λ w. either (λ a. Grows at (length s) (a then turnAfterByte s f at)) (within s at 1) _ _
     (λ v. byte-grows s f at (numberOf s at 1) (leb-true (at + 1) (length s) v))
     (λ v. tt {0}))
     (λ w. tt {0})

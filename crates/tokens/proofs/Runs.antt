@@ -6,12 +6,14 @@ use native.Mathlib.Omega.{arith}
 use borrow.Author.Tests.{leb-true, le-leb}
 use lib.ListN.{length}
 use Rattle.cursor.specs.Answer.{Answer, given, refused, _then_, pick}
-use Rattle.cursor.specs.Reads.{within, setTo, numberOf}
+use Rattle.cursor.specs.Reads.{within, setTo, numberOf, numberAt}
 use Rattle.cursor.specs.Refusals.{unknownType}
 use Rattle.cursor.proofs.Choice.{either}
 use Rattle.value.specs.Kinds.{knownCode}
 use Rattle.value.specs.declared.Value.{Value}
-use Rattle.tokens.specs.Instance.{endAt, afterSize, descriptorAt, tableAt, valueIn, valueStep, valuesAt}
+use Rattle.tokens.specs.Instance.{definitionAt, descriptorAt, tableAt, instanceHeadAt, valueIn, valueStep, valuesAt}
+use Rattle.tokens.specs.Pieces.{descriptorAfterSize, descriptorAfterType, headAfterCount}
+use Rattle.tokens.specs.declared.Instance.{Instance}
 
 -- a table: its first descriptor, and the rest
 pub table-on : (s : List ℕ) (at n : ℕ) (a : Answer Unit) → 0 < n → descriptorAt s at ≡ a → tableAt s at n ≡ (a then λ _ next. tableAt s next (n - 1))
@@ -77,9 +79,9 @@ spans-on at n high (refused k p) go h g = tt {0}
 descriptor-spans : (s : List ℕ) (at : ℕ) → Spans at 1 (length s) (descriptorAt s at)
 descriptor-spans s at =
     let P = Spans at 1 (length s) in
-    either (λ (a : Answer ℕ). P (a then λ _ next. afterSize s next)) (within s at 2) _ _
-    (λ w. either (λ (a : Answer ℕ). P (a then (λ code next. pick (knownCode code) (given code next) (refused unknownType next)) then λ _ next. endAt s next)) (within s (at + 2) 1) _ _
-    (λ v. either (λ (a : Answer ℕ). P (a then λ _ next. endAt s next)) (knownCode (numberOf s (at + 2) 1)) _ _
+    either (λ (a : Answer ℕ). P (a then λ _ next. descriptorAfterSize s next)) (within s at 2) _ _
+    (λ w. either (λ (a : Answer ℕ). P (a then (λ code next. pick (knownCode code) (given code next) (refused unknownType next)) then λ _ next. descriptorAfterType s next)) (within s (at + 2) 1) _ _
+    (λ v. either (λ (a : Answer ℕ). P (a then λ _ next. descriptorAfterType s next)) (knownCode (numberOf s (at + 2) 1)) _ _
     (λ k. either (λ (a : Answer ℕ). P (a then λ _ next. given tt next)) (within s (at + 2 + 1) 1) _ _
     (λ u. (omega arith, leb-true (at + 2 + 1 + 1) (length s) u))
     (λ u. tt {0}))
@@ -91,3 +93,29 @@ pub table-spans : (s : List ℕ) (n at : ℕ) → at ≤ length s → Spans at n
 unfolding tableAt
 table-spans s zero at h = (omega arith, h)
 table-spans s (suc n) at h = spans-on at n (length s) (descriptorAt s at) (λ m. tableAt s m n) (descriptor-spans s at) (λ m k. table-spans s n m k)
+
+-- the table of a head that was read stands in the stream, and the head ends there
+abbrev pub TableStands : ℕ → Answer Instance → Type 0
+TableStands high (given i next) = (i .table + 4 * i .count ≤ high) × (next ≤ high)
+TableStands high (refused k p) = Unit {0}
+
+after-any : {A : Type 0} (high : ℕ) (a : Answer A) (f : A → ℕ → Answer Instance) → ((x : A) (n : ℕ) → TableStands high (f x n))
+    → TableStands high (a then f)
+after-any high (given x n) f g = g x n
+after-any high (refused k p) f g = tt {0}
+
+after-table : (at n high : ℕ) (a : Answer Unit) (i : ℕ → Instance) → Spans at n high a → ((m : ℕ) → (i m .table ≡ at) × (i m .count ≡ n))
+    → TableStands high (a then λ _ next. given (i next) next)
+after-table at n high (given x m) i h g = (omega (arith, h .0, h .1, g m .0, g m .1), h .1)
+after-table at n high (refused k p) i h g = tt {0}
+
+pub head-stands : (s : List ℕ) (at : ℕ) → TableStands (length s) (instanceHeadAt s at)
+head-stands s at =
+    let high = length s in
+    after-any high (numberAt s at 1) _ (λ _ n.
+    after-any high (numberAt s n 4) _ (λ id m.
+    after-any high (numberAt s m 4) _ (λ offset e.
+    after-any high (definitionAt s offset e) _ (λ guid z.
+    either (λ a. TableStands high (a then λ count table. headAfterCount s id offset guid count table)) (within s z 4) _ _
+    (λ w. after-table (z + 4) (numberOf s z 4) high (tableAt s (z + 4) (numberOf s z 4)) _ (table-spans s (numberOf s z 4) (z + 4) (leb-true (z + 4) (length s) w)) (λ _. (refl, refl)))
+    (λ w. tt {0})))))

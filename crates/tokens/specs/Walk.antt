@@ -1,14 +1,13 @@
 -- The walk: a turn, a step and the list of tokens. Document 01, "Token walk".
 use mathlib.Core.List.{List, [], _∷_}
-use Prim.Native.Nat.{ℕ, zero, suc, _+_, _-_, _<_}
+use Prim.Native.Nat.{ℕ, zero, suc, _+_, _-_}
 use lib.Dec.{eqb, leb, ltb}
 use lib.ListN.{length}
 use Rattle.cursor.specs.Answer.{Answer, given, refused, _then_, pick}
 use Rattle.cursor.specs.Answers.{refusal}
 use Rattle.cursor.specs.Reads.{numberAt}
 use Rattle.cursor.specs.Refusals.{wrongLength, pastEnd}
-use Rattle.tokens.specs.Token.{otherAt}
-use Rattle.tokens.specs.Instance.{instanceAt}
+use Rattle.tokens.specs.Table.{gistAt}
 use Rattle.tokens.specs.declared.Flags.{Flags}
 use Rattle.tokens.specs.declared.plain.Gist.{Gist}
 use Rattle.tokens.specs.declared.Token.{Token}
@@ -16,8 +15,6 @@ use Rattle.cursor.specs.declared.Counted.{Counted}
 use Rattle.cursor.specs.declared.Counted.the-variants as C
 use Rattle.tokens.specs.declared.Stepped.{Stepped}
 use Rattle.tokens.specs.declared.Stepped.the-variants as S
-use Rattle.tokens.specs.declared.walking.Turned.{Turned}
-use Rattle.tokens.specs.declared.walking.Turned.the-variants as T
 
 -- what the walk meets: a token to hand on, a fragment header, or its end
 pub data Met : Type 0 where
@@ -25,54 +22,33 @@ pub data Met : Type 0 where
   header : Met
   over : Met
 
-abbrev pub turnAnswer : Turned → Answer Met
-turnAnswer (T.Token t c) = given (handed t) (c .at)
-turnAnswer (T.Header c) = given header (c .at)
-turnAnswer (T.Over c) = given over (c .at)
-turnAnswer (T.Refused r) = refusal r
-
 abbrev pub stepAnswer : Stepped → Answer Met
 stepAnswer (S.Token t c) = given (handed t) (c .at)
 stepAnswer (S.End c) = given over (c .at)
 stepAnswer (S.Refused r) = refusal r
-
--- what was read ends after a place
-abbrev pub EndsAfter : {A : Type 0} → ℕ → Answer A → Type 0
-EndsAfter place (given a next) = place < next
-EndsAfter place (refused k p) = Unit {0}
 
 -- "Place is the token byte's offset; length runs from there to where the walk reads on, be it a 0F or 00."
 abbrev pub tokenOf : ℕ → Gist → ℕ → Token
 tokenOf place g next =
     record { kind = g .kind; place = place; len = next - place; number = g .number; flag = g .flag; held = g .held }
 
-abbrev pub placed : ℕ → Answer Gist → Answer Met
-placed place a = a then λ g next. given (handed (tokenOf place g next)) next
-
-abbrev pub gistAt : List ℕ → Flags → ℕ → ℕ → Answer Gist
-gistAt s f b at = pick (eqb b 0x0C) (instanceAt s at) (otherAt s f b at)
-
 -- "0F takes three bytes, each a read of its own"
-abbrev pub afterMinor : List ℕ → ℕ → Answer Unit
-afterMinor s at = numberAt s at 1 then λ _ next. given tt next
-
-abbrev pub afterMajor : List ℕ → ℕ → Answer Unit
-afterMajor s at = numberAt s at 1 then λ _ next. afterMinor s next
-
 abbrev pub headerAt : List ℕ → ℕ → Answer Unit
-headerAt s at = numberAt s at 1 then λ _ next. afterMajor s next
+headerAt s at =
+    numberAt s at 1 then λ _ at.
+    numberAt s at 1 then λ _ at.
+    numberAt s at 1 then λ _ at.
+    given tt at
 
-abbrev pub headed : Answer Unit → Answer Met
-headed a = a then λ _ next. given header next
-
--- "Byte 00 ends the walk"
-abbrev pub onByte : List ℕ → Flags → ℕ → ℕ → ℕ → Answer Met
-onByte s f place b at =
-    pick (eqb b 0x00) (given over at) (pick (eqb b 0x0F) (headed (headerAt s at)) (placed place (gistAt s f b at)))
-
--- "Tokens are read while the position is below start plus length; the last may run over."
+-- "Tokens are read while the position is below start plus length; the last may run over. Byte 00 ends the walk"
 unfoldable pub turnAt : List ℕ → ℕ → Flags → ℕ → Answer Met
-turnAt s end f at = pick (ltb at end) (numberAt s at 1 then onByte s f at) (given over at)
+turnAt s end f place =
+    pick (ltb place end)
+    (numberAt s place 1 then λ b at.
+    pick (eqb b 0x00) (given over at)
+    (pick (eqb b 0x0F) (headerAt s at then λ _ at. given header at)
+    (gistAt s f b at then λ g at. given (handed (tokenOf place g at)) at)))
+    (given over place)
 
 -- "neither is handed on": after a header the walk goes on
 abbrev pub onward : Answer Met → (ℕ → Answer Met) → Answer Met

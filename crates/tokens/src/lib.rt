@@ -15,8 +15,8 @@ use value::Value;
 use value::ValueRead;
 use walking::Turned;
 ghost use mathlib.Core.Path.{_≡_};
-ghost use Rattle.tokens.specs.Single.{singleOf, endsOf};
-ghost use Rattle.tokens.specs.Instance.{valuesOf, nextOf};
+ghost use Rattle.tokens.specs.Single.{singleAnswer, singleOf, endsAnswer, endsOf};
+ghost use Rattle.tokens.specs.Instance.{valuesOf, nextAnswer, nextOf};
 ghost use Rattle.tokens.specs.Walk.{stepAnswer, stepAt, walkOf, countedOf};
 
 // How a stream is read: whether open tokens carry dependencies, and whether names stand inline.
@@ -77,7 +77,7 @@ pub enum NextValue {
 }
 
 // Where the instance of a single instance's stream starts, after its token byte.
-pub enum Single {
+pub enum SingleInstance {
     At(usize),
     Nothing,
 }
@@ -118,28 +118,28 @@ impl Token {
 }
 
 // Where a single instance starts.
-pub fn single_instance_offset(s: &[u8]) -> Single
-    ensures { λ r. ⌜ r ≡ singleOf (now (s .entry)) ⌝ }
+pub fn single_instance_offset(s: &[u8]) -> SingleInstance
+    ensures { λ r. ⌜ singleAnswer r ≡ singleOf (now (s .entry)) ⌝ }
 {
     let first = cursor::u8_at(s, 0);
     if first == 0x0C {
-        return Single::At(1);
+        return SingleInstance::At(1);
     }
     if s.len() < 6 {
-        return Single::Nothing;
+        return SingleInstance::Nothing;
     }
     if first != 0x0F {
-        return Single::Nothing;
+        return SingleInstance::Nothing;
     }
     if cursor::u8_at(s, 4) != 0x0C {
-        return Single::Nothing;
+        return SingleInstance::Nothing;
     }
-    Single::At(5)
+    SingleInstance::At(5)
 }
 
 // Whether a single instance's stream ends after the bytes that were read.
 pub fn ends_stream(s: &[u8], consumed: usize) -> Ends
-    ensures { λ r. ⌜ r ≡ endsOf (now (s .entry)) consumed ⌝ }
+    ensures { λ r. ⌜ endsAnswer r ≡ endsOf (now (s .entry)) consumed ⌝ }
 {
     if s.len() < consumed {
         return Ends::Beyond;
@@ -201,7 +201,7 @@ impl Values {
 
     // The next value.
     pub fn next(self, s: &[u8]) -> NextValue
-        ensures { λ r. ⌜ r ≡ nextOf (now (s .entry)) self ⌝ }
+        ensures { λ r. ⌜ nextAnswer r ≡ nextOf (now (s .entry)) self ⌝ }
     {
         if self.left == 0 {
             return NextValue::Done;

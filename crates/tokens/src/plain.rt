@@ -3,7 +3,6 @@ use crate::Flags;
 use crate::Held;
 use crate::Token;
 use cursor::Cursor;
-use cursor::Moved;
 use cursor::ReadU8;
 use cursor::ReadU16;
 use cursor::ReadU32;
@@ -14,8 +13,9 @@ use name::NameRead;
 use value::Kind;
 use value::ValueRead;
 ghost use mathlib.Core.Path.{_≡_};
-ghost use Rattle.cursor.specs.Answers.{u8Answer, u16Answer, movedAnswer};
-ghost use Rattle.tokens.specs.Token.{gistAnswer, bareAt, namedAt, textAt, charAt, typeAt, substitutionAt, afterNumber, valueAt, dependencyAt, sizeAt, listSizeAt, openOf, openAt, afterDependency, afterSize, afterName, smallAt, textsAt, namesAt, otherAt};
+ghost use Rattle.cursor.specs.Answers.{u8Answer, u16Answer, u32Answer};
+ghost use Rattle.tokens.specs.Token.{bareAt, charRefAt, typeAt, substitutionAt, namedAt, openOf, openAt, textTokenAt, valueTokenAt};
+ghost use Rattle.tokens.specs.Pieces.{gistAnswer, tableFrom02, tableFrom05, tableFrom09, tableFrom0D, substitutionAfterNumber, dependencyAt, listSizeAt, openAfterDependency, openAfterSize, openAfterName};
 
 // What a token is, but for where it stands.
 pub struct Gist {
@@ -30,47 +30,45 @@ pub enum GistRead {
     Refused(Refusal),
 }
 
-// What a token byte says but the instance's: an open or a value here, else a name, a text, or less.
-pub(crate) fn other(b: u8, c: Cursor, s: &[u8], flags: Flags) -> GistRead
-    ensures { λ r. ⌜ gistAnswer r ≡ otherAt (now (s .entry)) flags b (c .at) ⌝ }
-{
-    match b {
-        0x01 => opened(c, s, flags, false),
-        0x41 => opened(c, s, flags, true),
-        0x05 | 0x45 => held_value(c, s),
-        _ => names(b, c, s, flags.inline),
-    }
-}
-
-fn names(b: u8, c: Cursor, s: &[u8], inline: bool) -> GistRead
-    ensures { λ r. ⌜ gistAnswer r ≡ namesAt (now (s .entry)) inline b (c .at) ⌝ }
-{
-    match b {
-        0x06 | 0x46 => named(Token::ATTRIBUTE, c, s, inline),
-        0x09 | 0x49 => named(Token::ENTITY_REF, c, s, inline),
-        0x0A => named(Token::PI_TARGET, c, s, inline),
-        _ => texts(b, c, s),
-    }
-}
-
-fn texts(b: u8, c: Cursor, s: &[u8]) -> GistRead
-    ensures { λ r. ⌜ gistAnswer r ≡ textsAt (now (s .entry)) b (c .at) ⌝ }
-{
-    match b {
-        0x07 | 0x47 => text(Token::CDATA, c, s),
-        0x08 | 0x48 => char_ref(c, s),
-        0x0B => text(Token::PI_DATA, c, s),
-        _ => small(b, c, s),
-    }
-}
-
-fn small(b: u8, c: Cursor, s: &[u8]) -> GistRead
-    ensures { λ r. ⌜ gistAnswer r ≡ smallAt (now (s .entry)) b (c .at) ⌝ }
+// The token table from 02 on: the close tokens, and what comes after them in the table.
+pub(crate) fn closes(b: u8, c: Cursor, s: &[u8], inline: bool) -> GistRead
+    ensures { λ r. ⌜ gistAnswer r ≡ tableFrom02 (now (s .entry)) inline b (c .at) ⌝ }
 {
     match b {
         0x02 => bare(Token::CLOSE_START, c),
         0x03 => bare(Token::CLOSE_EMPTY, c),
         0x04 => bare(Token::CLOSE_ELEMENT, c),
+        _ => contents(b, c, s, inline),
+    }
+}
+
+fn contents(b: u8, c: Cursor, s: &[u8], inline: bool) -> GistRead
+    ensures { λ r. ⌜ gistAnswer r ≡ tableFrom05 (now (s .entry)) inline b (c .at) ⌝ }
+{
+    match b {
+        0x05 | 0x45 => held_value(c, s),
+        0x06 | 0x46 => named(Token::ATTRIBUTE, c, s, inline),
+        0x07 | 0x47 => text(Token::CDATA, c, s),
+        0x08 | 0x48 => char_ref(c, s),
+        _ => references(b, c, s, inline),
+    }
+}
+
+fn references(b: u8, c: Cursor, s: &[u8], inline: bool) -> GistRead
+    ensures { λ r. ⌜ gistAnswer r ≡ tableFrom09 (now (s .entry)) inline b (c .at) ⌝ }
+{
+    match b {
+        0x09 | 0x49 => named(Token::ENTITY_REF, c, s, inline),
+        0x0A => named(Token::PI_TARGET, c, s, inline),
+        0x0B => text(Token::PI_DATA, c, s),
+        _ => substitutions(b, c, s),
+    }
+}
+
+fn substitutions(b: u8, c: Cursor, s: &[u8]) -> GistRead
+    ensures { λ r. ⌜ gistAnswer r ≡ tableFrom0D (now (s .entry)) b (c .at) ⌝ }
+{
+    match b {
         0x0D => substitution(c, s, false),
         0x0E => substitution(c, s, true),
         _ => GistRead::Refused(Refusal {
@@ -108,7 +106,7 @@ fn named(kind: u8, c: Cursor, s: &[u8], inline: bool) -> GistRead
 }
 
 fn text(kind: u8, c: Cursor, s: &[u8]) -> GistRead
-    ensures { λ r. ⌜ gistAnswer r ≡ textAt (now (s .entry)) kind (c .at) ⌝ }
+    ensures { λ r. ⌜ gistAnswer r ≡ textTokenAt (now (s .entry)) kind (c .at) ⌝ }
 {
     match c.len_prefixed_utf16_string(s, false) {
         Text::Units(v, next) => GistRead::Read(made(kind, 0, false, Held::Text(v)), next),
@@ -117,7 +115,7 @@ fn text(kind: u8, c: Cursor, s: &[u8]) -> GistRead
 }
 
 fn char_ref(c: Cursor, s: &[u8]) -> GistRead
-    ensures { λ r. ⌜ gistAnswer r ≡ charAt (now (s .entry)) (c .at) ⌝ }
+    ensures { λ r. ⌜ gistAnswer r ≡ charRefAt (now (s .entry)) (c .at) ⌝ }
 {
     match c.u16(s) {
         ReadU16::Value(n, next) => GistRead::Read(
@@ -129,7 +127,7 @@ fn char_ref(c: Cursor, s: &[u8]) -> GistRead
 }
 
 fn held_value(c: Cursor, s: &[u8]) -> GistRead
-    ensures { λ r. ⌜ gistAnswer r ≡ valueAt (now (s .entry)) (c .at) ⌝ }
+    ensures { λ r. ⌜ gistAnswer r ≡ valueTokenAt (now (s .entry)) (c .at) ⌝ }
 {
     match value::read_unsized(c, s) {
         ValueRead::Read(v, next) => GistRead::Read(
@@ -169,7 +167,7 @@ fn substitution(c: Cursor, s: &[u8], optional: bool) -> GistRead
 }
 
 fn after_number(n: u16, c: Cursor, s: &[u8], optional: bool) -> GistRead
-    ensures { λ r. ⌜ gistAnswer r ≡ afterNumber (now (s .entry)) optional n (c .at) ⌝ }
+    ensures { λ r. ⌜ gistAnswer r ≡ substitutionAfterNumber (now (s .entry)) optional n (c .at) ⌝ }
 {
     match type_at(c, s) {
         ReadU8::Value(_, next) => GistRead::Read(
@@ -180,12 +178,12 @@ fn after_number(n: u16, c: Cursor, s: &[u8], optional: bool) -> GistRead
     }
 }
 
-// An open token; `wide` is its byte's bit that a list of attributes follows.
-fn opened(c: Cursor, s: &[u8], flags: Flags, wide: bool) -> GistRead
-    ensures { λ r. ⌜ gistAnswer r ≡ openAt (now (s .entry)) flags wide (c .at) ⌝ }
+// An open token; its byte announces attributes (41) or not (01).
+pub(crate) fn opened(c: Cursor, s: &[u8], flags: Flags, announced: bool) -> GistRead
+    ensures { λ r. ⌜ gistAnswer r ≡ openAt (now (s .entry)) flags announced (c .at) ⌝ }
 {
     match dependency(c, s, flags.dependencies) {
-        ReadU16::Value(d, next) => after_dependency(d, next, s, flags.inline, wide),
+        ReadU16::Value(d, next) => after_dependency(d, next, s, flags.inline, announced),
         ReadU16::Refused(r) => GistRead::Refused(r),
     }
 }
@@ -201,45 +199,41 @@ fn dependency(c: Cursor, s: &[u8], carried: bool) -> ReadU16
     }
 }
 
-fn after_dependency(d: u16, c: Cursor, s: &[u8], inline: bool, wide: bool) -> GistRead
-    ensures { λ r. ⌜ gistAnswer r ≡ afterDependency (now (s .entry)) inline wide d (c .at) ⌝ }
+fn after_dependency(d: u16, c: Cursor, s: &[u8], inline: bool, announced: bool) -> GistRead
+    ensures { λ r. ⌜ gistAnswer r ≡ openAfterDependency (now (s .entry)) inline announced d (c .at) ⌝ }
 {
     match c.u32(s) {
-        ReadU32::Value(_, next) => after_size(d, next, s, inline, wide),
+        ReadU32::Value(_, next) => after_size(d, next, s, inline, announced),
         ReadU32::Refused(r) => GistRead::Refused(r),
     }
 }
 
-fn after_size(d: u16, c: Cursor, s: &[u8], inline: bool, wide: bool) -> GistRead
-    ensures { λ r. ⌜ gistAnswer r ≡ afterSize (now (s .entry)) inline wide d (c .at) ⌝ }
+fn after_size(d: u16, c: Cursor, s: &[u8], inline: bool, announced: bool) -> GistRead
+    ensures { λ r. ⌜ gistAnswer r ≡ openAfterSize (now (s .entry)) inline announced d (c .at) ⌝ }
 {
     match name::read_name_ref(c, s, inline) {
-        NameRead::Read(n, next) => after_name(d, n, next, s, wide),
+        NameRead::Read(n, next) => after_name(d, n, next, s, announced),
         NameRead::Refused(r) => GistRead::Refused(r),
     }
 }
 
-fn after_name(d: u16, n: Name, c: Cursor, s: &[u8], wide: bool) -> GistRead
-    ensures { λ r. ⌜ gistAnswer r ≡ afterName (now (s .entry)) wide d n (c .at) ⌝ }
+fn after_name(d: u16, n: Name, c: Cursor, s: &[u8], announced: bool) -> GistRead
+    ensures { λ r. ⌜ gistAnswer r ≡ openAfterName (now (s .entry)) announced d n (c .at) ⌝ }
 {
-    match list_size(c, s, wide) {
-        Moved::To(next) => GistRead::Read(open_of(d, n), next),
-        Moved::Refused(r) => GistRead::Refused(r),
+    match list_size(c, s, announced) {
+        ReadU32::Value(_, next) => GistRead::Read(open_of(d, n), next),
+        ReadU32::Refused(r) => GistRead::Refused(r),
     }
 }
 
-fn list_size(c: Cursor, s: &[u8], wide: bool) -> Moved
-    ensures { λ r. ⌜ movedAnswer r ≡ listSizeAt (now (s .entry)) wide (c .at) ⌝ }
+// The size of the list of attributes, where they are announced.
+fn list_size(c: Cursor, s: &[u8], announced: bool) -> ReadU32
+    ensures { λ r. ⌜ u32Answer r ≡ listSizeAt (now (s .entry)) announced (c .at) ⌝ }
 {
-    if wide { pass_size(c, s) } else { Moved::To(c) }
-}
-
-fn pass_size(c: Cursor, s: &[u8]) -> Moved
-    ensures { λ r. ⌜ movedAnswer r ≡ sizeAt (now (s .entry)) (c .at) ⌝ }
-{
-    match c.u32(s) {
-        ReadU32::Value(_, next) => Moved::To(next),
-        ReadU32::Refused(r) => Moved::Refused(r),
+    if announced {
+        c.u32(s)
+    } else {
+        ReadU32::Value(0, c)
     }
 }
 

@@ -20,42 +20,105 @@ ghost use lib.ListN.{length};
 ghost use Rattle.cursor.specs.Answer as Answer;
 ghost use Rattle.cursor.specs.Answers.{movedAnswer, takenAnswer};
 ghost use Rattle.value.specs.Value.{valueAnswer};
-ghost use Rattle.tokens.specs.Token.{gistAnswer};
-ghost use Rattle.tokens.specs.Instance.{instanceAt, afterByte, afterId, afterOffset, definitionAt, inPlaceAt, afterLink, afterBytes, skipped, afterGuid, afterCount, afterTable, descriptorAt, afterSize, endAt, tableAt, valueStep, valuesAt};
+ghost use Rattle.tokens.specs.Instance.{definitionAt, descriptorAt, tableAt, instanceHeadAt, valuesAt, instanceAt, valueStep};
+ghost use Rattle.tokens.specs.Pieces.{gistAnswer, instanceAnswer, definitionInPlace, definitionAfterLink, definitionAfterGuid, definitionAfterBytes, descriptorAfterSize, descriptorAfterType, headAfterByte, headAfterId, headAfterOffset, headAfterDefinition, headAfterCount, instanceAfterHead};
+
+// An instance but its values: the whole table is read before any of them.
+pub enum InstanceRead {
+    Read(Instance, Cursor),
+    Refused(Refusal),
+}
 
 pub(crate) fn read(c: Cursor, s: &[u8]) -> GistRead
     ensures { λ r. ⌜ gistAnswer r ≡ instanceAt (now (s .entry)) (c .at) ⌝ }
 {
-    match c.u8(s) {
-        ReadU8::Value(_, next) => after_byte(next, s),
-        ReadU8::Refused(r) => GistRead::Refused(r),
+    match head(c, s) {
+        InstanceRead::Read(i, next) => after_head(i, next, s),
+        InstanceRead::Refused(r) => GistRead::Refused(r),
     }
 }
 
-fn after_byte(c: Cursor, s: &[u8]) -> GistRead
-    ensures { λ r. ⌜ gistAnswer r ≡ afterByte (now (s .entry)) (c .at) ⌝ }
+// The descriptors stand in the stream.
+fn after_head(i: Instance, c: Cursor, s: &[u8]) -> GistRead
+    requires { ⌜ (i .table + 4 * i .count ≤ length (now s)) × (c .at ≤ length (now s)) ⌝ }
+    ensures { λ r. ⌜ gistAnswer r ≡ instanceAfterHead (now (s .entry)) i (c .at) ⌝ }
+{
+    match values(i.table, i.count, c, s) {
+        Moved::To(next) => GistRead::Read(
+            Gist {
+                kind: Token::INSTANCE,
+                number: 0,
+                flag: false,
+                held: Held::Instance(i),
+            },
+            next,
+        ),
+        Moved::Refused(r) => GistRead::Refused(r),
+    }
+}
+
+// An instance's numbers, its definition where it stands in place, and the whole table.
+fn head(c: Cursor, s: &[u8]) -> InstanceRead
+    ensures { λ r. ⌜ instanceAnswer r ≡ instanceHeadAt (now (s .entry)) (c .at) ⌝ }
+{
+    match c.u8(s) {
+        ReadU8::Value(_, next) => after_byte(next, s),
+        ReadU8::Refused(r) => InstanceRead::Refused(r),
+    }
+}
+
+fn after_byte(c: Cursor, s: &[u8]) -> InstanceRead
+    ensures { λ r. ⌜ instanceAnswer r ≡ headAfterByte (now (s .entry)) (c .at) ⌝ }
 {
     match c.u32(s) {
         ReadU32::Value(id, next) => after_id(id, next, s),
-        ReadU32::Refused(r) => GistRead::Refused(r),
+        ReadU32::Refused(r) => InstanceRead::Refused(r),
     }
 }
 
-fn after_id(id: u32, c: Cursor, s: &[u8]) -> GistRead
-    ensures { λ r. ⌜ gistAnswer r ≡ afterId (now (s .entry)) id (c .at) ⌝ }
+fn after_id(id: u32, c: Cursor, s: &[u8]) -> InstanceRead
+    ensures { λ r. ⌜ instanceAnswer r ≡ headAfterId (now (s .entry)) id (c .at) ⌝ }
 {
     match c.u32(s) {
         ReadU32::Value(offset, next) => after_offset(id, offset, next, s),
-        ReadU32::Refused(r) => GistRead::Refused(r),
+        ReadU32::Refused(r) => InstanceRead::Refused(r),
     }
 }
 
-fn after_offset(id: u32, offset: u32, c: Cursor, s: &[u8]) -> GistRead
-    ensures { λ r. ⌜ gistAnswer r ≡ afterOffset (now (s .entry)) id offset (c .at) ⌝ }
+fn after_offset(id: u32, offset: u32, c: Cursor, s: &[u8]) -> InstanceRead
+    ensures { λ r. ⌜ instanceAnswer r ≡ headAfterOffset (now (s .entry)) id offset (c .at) ⌝ }
 {
     match definition(offset, c, s) {
-        Taken::Bytes(g, next) => after_guid(id, offset, g, next, s),
-        Taken::Refused(r) => GistRead::Refused(r),
+        Taken::Bytes(g, next) => after_definition(id, offset, g, next, s),
+        Taken::Refused(r) => InstanceRead::Refused(r),
+    }
+}
+
+fn after_definition(id: u32, offset: u32, g: Part, c: Cursor, s: &[u8]) -> InstanceRead
+    ensures { λ r. ⌜ instanceAnswer r ≡ headAfterDefinition (now (s .entry)) id offset g (c .at) ⌝ }
+{
+    match c.u32(s) {
+        ReadU32::Value(count, next) => after_count(id, offset, g, count, next, s),
+        ReadU32::Refused(r) => InstanceRead::Refused(r),
+    }
+}
+
+fn after_count(id: u32, offset: u32, g: Part, count: u32, c: Cursor, s: &[u8]) -> InstanceRead
+    ensures { λ r. ⌜ instanceAnswer r ≡ headAfterCount (now (s .entry)) id offset g count (c .at) ⌝ }
+{
+    match table(count, c, s) {
+        Moved::To(next) => InstanceRead::Read(
+            Instance {
+                id: id,
+                offset: offset,
+                guid: g,
+                table: c.at,
+                count: count,
+                values: next.at,
+            },
+            next,
+        ),
+        Moved::Refused(r) => InstanceRead::Refused(r),
     }
 }
 
@@ -71,7 +134,7 @@ fn definition(offset: u32, c: Cursor, s: &[u8]) -> Taken
 }
 
 fn in_place(c: Cursor, s: &[u8]) -> Taken
-    ensures { λ r. ⌜ takenAnswer r ≡ inPlaceAt (now (s .entry)) (c .at) ⌝ }
+    ensures { λ r. ⌜ takenAnswer r ≡ definitionInPlace (now (s .entry)) (c .at) ⌝ }
 {
     match c.u32(s) {
         ReadU32::Value(_, next) => after_link(next, s),
@@ -80,16 +143,16 @@ fn in_place(c: Cursor, s: &[u8]) -> Taken
 }
 
 fn after_link(c: Cursor, s: &[u8]) -> Taken
-    ensures { λ r. ⌜ takenAnswer r ≡ afterLink (now (s .entry)) (c .at) ⌝ }
+    ensures { λ r. ⌜ takenAnswer r ≡ definitionAfterLink (now (s .entry)) (c .at) ⌝ }
 {
     match c.take_bytes(s, 16) {
-        Taken::Bytes(g, next) => after_bytes(g, next, s),
+        Taken::Bytes(g, next) => after_guid(g, next, s),
         Taken::Refused(r) => Taken::Refused(r),
     }
 }
 
-fn after_bytes(g: Part, c: Cursor, s: &[u8]) -> Taken
-    ensures { λ r. ⌜ takenAnswer r ≡ afterBytes (now (s .entry)) g (c .at) ⌝ }
+fn after_guid(g: Part, c: Cursor, s: &[u8]) -> Taken
+    ensures { λ r. ⌜ takenAnswer r ≡ definitionAfterGuid (now (s .entry)) g (c .at) ⌝ }
 {
     match c.u32(s) {
         ReadU32::Value(n, next) => skip(g, n, next, s),
@@ -99,59 +162,11 @@ fn after_bytes(g: Part, c: Cursor, s: &[u8]) -> Taken
 
 fn skip(g: Part, n: u32, c: Cursor, s: &[u8]) -> Taken
     requires { ⌜ c .at ≤ length (now s) ⌝ }
-    ensures { λ r. ⌜ takenAnswer r ≡ skipped (now (s .entry)) g n (c .at) ⌝ }
+    ensures { λ r. ⌜ takenAnswer r ≡ definitionAfterBytes (now (s .entry)) g n (c .at) ⌝ }
 {
     match c.set_pos(s, c.at + n as usize) {
         Moved::To(next) => Taken::Bytes(g, next),
         Moved::Refused(r) => Taken::Refused(r),
-    }
-}
-
-fn after_guid(id: u32, offset: u32, g: Part, c: Cursor, s: &[u8]) -> GistRead
-    ensures { λ r. ⌜ gistAnswer r ≡ afterGuid (now (s .entry)) id offset g (c .at) ⌝ }
-{
-    match c.u32(s) {
-        ReadU32::Value(count, next) => after_count(id, offset, g, count, next, s),
-        ReadU32::Refused(r) => GistRead::Refused(r),
-    }
-}
-
-// The whole table is read before any value.
-fn after_count(id: u32, offset: u32, g: Part, count: u32, c: Cursor, s: &[u8]) -> GistRead
-    requires { ⌜ c .at ≤ length (now s) ⌝ }
-    ensures { λ r. ⌜ gistAnswer r ≡ afterCount (now (s .entry)) id offset g count (c .at) ⌝ }
-{
-    match table(count, c, s) {
-        Moved::To(next) => after_table(
-            Instance {
-                id: id,
-                offset: offset,
-                guid: g,
-                table: c.at,
-                count: count,
-                values: next.at,
-            },
-            s,
-        ),
-        Moved::Refused(r) => GistRead::Refused(r),
-    }
-}
-
-fn after_table(i: Instance, s: &[u8]) -> GistRead
-    requires { ⌜ (i .table + 4 * i .count ≤ length (now s)) × (i .values ≤ length (now s)) ⌝ }
-    ensures { λ r. ⌜ gistAnswer r ≡ afterTable (now (s .entry)) i ⌝ }
-{
-    match values(i.table, i.count, Cursor { at: i.values }, s) {
-        Moved::To(next) => GistRead::Read(
-            Gist {
-                kind: Token::INSTANCE,
-                number: 0,
-                flag: false,
-                held: Held::Instance(i),
-            },
-            next,
-        ),
-        Moved::Refused(r) => GistRead::Refused(r),
     }
 }
 
@@ -183,7 +198,7 @@ fn descriptor(c: Cursor, s: &[u8]) -> Moved
 }
 
 fn after_size(c: Cursor, s: &[u8]) -> Moved
-    ensures { λ r. ⌜ movedAnswer r ≡ afterSize (now (s .entry)) (c .at) ⌝ }
+    ensures { λ r. ⌜ movedAnswer r ≡ descriptorAfterSize (now (s .entry)) (c .at) ⌝ }
 {
     match type_at(c, s) {
         ReadU8::Value(_, next) => last_byte(next, s),
@@ -192,7 +207,7 @@ fn after_size(c: Cursor, s: &[u8]) -> Moved
 }
 
 fn last_byte(c: Cursor, s: &[u8]) -> Moved
-    ensures { λ r. ⌜ movedAnswer r ≡ endAt (now (s .entry)) (c .at) ⌝ }
+    ensures { λ r. ⌜ movedAnswer r ≡ descriptorAfterType (now (s .entry)) (c .at) ⌝ }
 {
     match c.u8(s) {
         ReadU8::Value(_, next) => Moved::To(next),

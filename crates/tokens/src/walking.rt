@@ -16,8 +16,9 @@ ghost use mathlib.Core.Path.{_≡_};
 ghost use Prim.Native.Nat.{_+_, _≤_};
 ghost use lib.ListN.{length};
 ghost use Rattle.cursor.specs.Answers.{movedAnswer};
-ghost use Rattle.tokens.specs.Token.{gistAnswer};
-ghost use Rattle.tokens.specs.Walk.{EndsAfter, turnAnswer, turnAt, tokenOf, onByte, gistAt, headerAt, afterMajor, afterMinor, placed, headed, walkAt, countedOf};
+ghost use Rattle.tokens.specs.Table.{gistAt};
+ghost use Rattle.tokens.specs.Walk.{turnAt, tokenOf, headerAt, walkAt, countedOf};
+ghost use Rattle.tokens.specs.Pieces.{gistAnswer, turnAnswer, turnAfterByte, headerAfterMajor, headerAfterMinor, metToken, metHeader, EndsAfter};
 
 pub enum Turned {
     Token(Token, Cursor),
@@ -41,7 +42,7 @@ pub(crate) fn turn(s: &[u8], at: usize, end: usize, flags: Flags) -> Turned
 
 fn on_byte(place: usize, b: u8, c: Cursor, s: &[u8], flags: Flags) -> Turned
     requires { ⌜ (c .at ≡ place + 1) × (c .at ≤ length (now s)) ⌝ }
-    ensures { λ r. ⌜ turnAnswer r ≡ onByte (now (s .entry)) flags place b (c .at) ⌝ }
+    ensures { λ r. ⌜ turnAnswer r ≡ turnAfterByte (now (s .entry)) flags place b (c .at) ⌝ }
 {
     match b {
         0x00 => Turned::Over(c),
@@ -50,20 +51,22 @@ fn on_byte(place: usize, b: u8, c: Cursor, s: &[u8], flags: Flags) -> Turned
     }
 }
 
+// The token table, from its first.
 fn gist_at(b: u8, c: Cursor, s: &[u8], flags: Flags) -> GistRead
     ensures { λ r. ⌜ gistAnswer r ≡ gistAt (now (s .entry)) flags b (c .at) ⌝ }
 {
-    if b == 0x0C {
-        template::read(c, s)
-    } else {
-        plain::other(b, c, s, flags)
+    match b {
+        0x0C => template::read(c, s),
+        0x01 => plain::opened(c, s, flags, false),
+        0x41 => plain::opened(c, s, flags, true),
+        _ => plain::closes(b, c, s, flags.inline),
     }
 }
 
 // The token of what was read, from its place to where the walk reads on.
 fn placed(place: usize, got: GistRead) -> Turned
     requires { ⌜ EndsAfter place (gistAnswer got) ⌝ }
-    ensures { λ r. ⌜ turnAnswer r ≡ placed place (gistAnswer got) ⌝ }
+    ensures { λ r. ⌜ turnAnswer r ≡ metToken place (gistAnswer got) ⌝ }
 {
     match got {
         GistRead::Read(g, next) => Turned::Token(token_of(place, g, next.at), next),
@@ -87,7 +90,7 @@ fn token_of(place: usize, g: Gist, next: usize) -> Token
 }
 
 fn headed(got: Moved) -> Turned
-    ensures { λ r. ⌜ turnAnswer r ≡ headed (movedAnswer got) ⌝ }
+    ensures { λ r. ⌜ turnAnswer r ≡ metHeader (movedAnswer got) ⌝ }
 {
     match got {
         Moved::To(next) => Turned::Header(next),
@@ -106,7 +109,7 @@ fn header(c: Cursor, s: &[u8]) -> Moved
 }
 
 fn after_major(c: Cursor, s: &[u8]) -> Moved
-    ensures { λ r. ⌜ movedAnswer r ≡ afterMajor (now (s .entry)) (c .at) ⌝ }
+    ensures { λ r. ⌜ movedAnswer r ≡ headerAfterMajor (now (s .entry)) (c .at) ⌝ }
 {
     match c.u8(s) {
         ReadU8::Value(_, next) => after_minor(next, s),
@@ -115,7 +118,7 @@ fn after_major(c: Cursor, s: &[u8]) -> Moved
 }
 
 fn after_minor(c: Cursor, s: &[u8]) -> Moved
-    ensures { λ r. ⌜ movedAnswer r ≡ afterMinor (now (s .entry)) (c .at) ⌝ }
+    ensures { λ r. ⌜ movedAnswer r ≡ headerAfterMinor (now (s .entry)) (c .at) ⌝ }
 {
     match c.u8(s) {
         ReadU8::Value(_, next) => Moved::To(next),

@@ -11,7 +11,7 @@ use Rattle.record.specs.Record.{plainAt, strictAt, payloadOf}
 use Rattle.chunk.specs.Listing.{rowsOf}
 use Rattle.tokens.specs.Instance.{tableAt, valuesAt}
 use Rattle.tokens.specs.Single.{singleOf, endsOf}
-use Rattle.tokens.specs.Token.{smallAt, textsAt, namesAt, otherAt}
+use Rattle.tokens.specs.Table.{gistAt}
 use Rattle.tokens.specs.Walk.{turnAt, stepFrom, walkFrom, walkOf}
 use Rattle.sheet.specs.Sheet.{readFrom}
 use Rattle.stream_answers.specs.Modes.{answerText}
@@ -21,7 +21,7 @@ use Rattle.print.specs.Text.{put, each, decimalIn}
 use Rattle.vectors.specs.Calls.{Calls}
 
 pub calls : Calls
-unfolding little startsWith arrayAt unitsOf beforeZero hashFrom among knownCode widthOf bitsOf realOf unsignedOf decodedOf sizedAt unsizedAt fieldsAt offsetsAt plainAt strictAt payloadOf tableAt valuesAt singleOf endsOf smallAt textsAt namesAt otherAt turnAt stepFrom walkFrom walkOf put each decimalIn readFrom valuesFrom answerText count rowsOf
+unfolding little startsWith arrayAt unitsOf beforeZero hashFrom among knownCode widthOf bitsOf realOf unsignedOf decodedOf sizedAt unsizedAt fieldsAt offsetsAt plainAt strictAt payloadOf tableAt valuesAt singleOf endsOf gistAt turnAt stepFrom walkFrom walkOf put each decimalIn readFrom valuesFrom answerText count rowsOf
 calls =
     record {
       read = refl;

@@ -6,7 +6,7 @@ use mathlib.Core.List.{List, [], _∷_, _++_}
 use Prim.Native.Nat.{ℕ}
 use lib.IntN.{negsuc, pos}
 use lib.ListN.{length, getD, replicate}
-use Rattle.cursor.specs.Answer.{Answer, given, refused}
+use Rattle.cursor.specs.Answer.{Answer, given, refused, gives, refuses, just, nothing}
 use Rattle.cursor.specs.Reads.{numberAt, numberOf, setTo, takeAt, partOf, sidAt, arrayAt, startsWith}
 use Rattle.cursor.specs.Text.{unitsOf, countedAt, prefixedAt, zeroEndedAt}
 use Rattle.cursor.specs.declared.Part.{Part}
@@ -31,10 +31,7 @@ use Rattle.chunk.specs.declared.Walk.{Walk}
 use Rattle.tokens.specs.Instance.{valuesOf, nextOf}
 use Rattle.tokens.specs.Single.{singleOf, endsOf}
 use Rattle.tokens.specs.Walk.{walkOf, countedOf}
-use Rattle.tokens.specs.declared.Ends.the-variants as E
 use Rattle.tokens.specs.declared.Flags.{Flags}
-use Rattle.tokens.specs.declared.NextValue.the-variants as N
-use Rattle.tokens.specs.declared.Single.the-variants as S
 use Rattle.tokens.specs.declared.Values.{Values}
 use Rattle.doortumble.specs.Calls.{packedOf}
 use Rattle.checksum_call.specs.Said.{saidOf}
@@ -116,13 +113,13 @@ pub record Calls : Type 0 where
   -- `Values::next`: a value, and the next descriptor four bytes on; where none is left, done, whatever the stream holds
   pub first-value :
       nextOf (anInstance 2 0x08 (0x2A ∷ 0 ∷ 0 ∷ 0 ∷ [])) (record { table = 14; left = 1; at = 18 })
-      ≡ N.Value (valueOf 0x08 18 (Number (part 18 4))) 2 (record { table = 18; left = 0; at = 22 })
-  pub next : nextOf [] (record { table = 14; left = 0; at = 18 }) ≡ N.Done
+      ≡ gives (just (record { value = valueOf 0x08 18 (Number (part 18 4)); size = 2; rest = record { table = 18; left = 0; at = 22 } }))
+  pub next : nextOf [] (record { table = 14; left = 0; at = 18 }) ≡ gives nothing
   -- `single_instance_offset`: a header and 0C with a byte after it
-  pub single : singleOf (0x0F ∷ 1 ∷ 1 ∷ 0 ∷ 0x0C ∷ 1 ∷ []) ≡ S.At 5
+  pub single : singleOf (0x0F ∷ 1 ∷ 1 ∷ 0 ∷ 0x0C ∷ 1 ∷ []) ≡ just 5
   -- `ends_stream`: a byte that is not 0 follows; what was consumed reaches past the end
-  pub goes-on : endsOf three 1 ≡ E.No
-  pub ends : endsOf three 4 ≡ E.Beyond
+  pub goes-on : endsOf three 1 ≡ just false
+  pub ends : endsOf three 4 ≡ nothing
   -- `read_fields`, `read_header`: the length first
   pub fields : fieldsAt three ≡ refused 1 0
   pub strings : stringsOf [] ≡ replicate 64 0

@@ -4,7 +4,8 @@ use Prim.Native.Nat.{_-_}
 use native.Mathlib.Omega.{arith}
 use borrow.Author.Needs.{needs}
 use lib.ListN.{length}
-use Rattle.tokens.specs.Walk.{turnAnswer, stepAt}
+use Rattle.tokens.specs.Walk.{stepAt}
+use Rattle.tokens.specs.Pieces.{turnAnswer}
 use Rattle.tokens.proofs.Reach.{Grows, turn-grows}
 use Rattle.tokens.proofs.Steps.{step-is, step-header}
 use Rattle.tokens.proofs.step.Statement.{statement}

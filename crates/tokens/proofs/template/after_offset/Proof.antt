@@ -11,14 +11,14 @@ definition-requires c κs = search needs
 enum-known-g : tie.Need-enum-known-g
 enum-known-g c = search needs
 
-after-guid-requires : tie.Need-after-guid-requires
-after-guid-requires c κs = search needs
+after-definition-requires : tie.Need-after-definition-requires
+after-definition-requires c κs = search needs
 
 enum-known-r : tie.Need-enum-known-r
 enum-known-r c = search needs
 
 returns : tie.Need-returns
-returns c = simp (sym (c .before .before .before .before .definition .ensures) ∙ ap takenAnswer (c .before .before .g .given .1), c .after-guid .ensures)
+returns c = simp (sym (c .before .before .before .before .definition .ensures) ∙ ap takenAnswer (c .before .before .g .given .1), c .after-definition .ensures)
 
 returns-2 : tie.Need-returns-2
 returns-2 c = simp (sym (c .before .before .before .definition .ensures) ∙ ap takenAnswer (c .before .r .given .1))
@@ -26,4 +26,4 @@ returns-2 c = simp (sym (c .before .before .before .definition .ensures) ∙ ap 
 pub after-offset-spec : {M : Type 1} → statement M
 after-offset-spec =
     tie.close
-    (tie.spec definition-requires enum-known-g after-guid-requires enum-known-r returns returns-2)
+    (tie.spec definition-requires enum-known-g after-definition-requires enum-known-r returns returns-2)

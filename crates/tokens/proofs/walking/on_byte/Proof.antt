@@ -4,7 +4,8 @@ use Prim.Native.Nat.{ℕ}
 use borrow.Author.Tests.{ne-eqb}
 use lib.ListN.{length}
 use Rattle.value.proofs.Bounds.{Between}
-use Rattle.tokens.specs.Walk.{EndsAfter, gistAt}
+use Rattle.tokens.specs.Table.{gistAt}
+use Rattle.tokens.specs.Pieces.{EndsAfter}
 use Rattle.tokens.proofs.Reach.{gist-ends, ends}
 use borrow.Author.Needs.{needs}
 use Rattle.tokens.proofs.walking.on_byte.Statement.{statement}

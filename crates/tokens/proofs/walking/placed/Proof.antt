@@ -1,8 +1,7 @@
 -- `placed` meets its contract: the token of what was read, or its refusal. Assumes nothing.
 use mathlib.Core.Path.{ap, subst}
 use native.Mathlib.Omega.{arith}
-use Rattle.tokens.specs.Token.{gistAnswer}
-use Rattle.tokens.specs.Walk.{EndsAfter}
+use Rattle.tokens.specs.Pieces.{gistAnswer, EndsAfter}
 use borrow.Author.Needs.{needs}
 use Rattle.tokens.proofs.walking.placed.Statement.{statement}
 use Rattle.tokens.proofs.walking.placed.Tie as tie

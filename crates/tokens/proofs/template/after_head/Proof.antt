@@ -1,9 +1,9 @@
--- `after_table` meets its contract: the values, or their refusal. Assumes nothing.
+-- `after_head` meets its contract: the values, or their refusal. Assumes nothing.
 use mathlib.Core.Path.{sym, ap, _∙_}
 use Rattle.cursor.specs.Answers.{movedAnswer}
 use borrow.Author.Needs.{needs}
-use Rattle.tokens.proofs.template.after_table.Statement.{statement}
-use Rattle.tokens.proofs.template.after_table.Tie as tie
+use Rattle.tokens.proofs.template.after_head.Statement.{statement}
+use Rattle.tokens.proofs.template.after_head.Tie as tie
 
 values-requires : tie.Need-values-requires
 values-requires c κs = search needs
@@ -20,6 +20,6 @@ returns c = simp (sym (c .before .before .before .values .ensures) ∙ ap movedA
 returns-2 : tie.Need-returns-2
 returns-2 c = simp (sym (c .before .before .before .values .ensures) ∙ ap movedAnswer (c .before .r .given .1))
 
-pub after-table-spec : {M : Type 1} → statement M
-after-table-spec =
+pub after-head-spec : {M : Type 1} → statement M
+after-head-spec =
     tie.close (tie.spec values-requires enum-known-next enum-known-r returns returns-2)
