@@ -23,13 +23,13 @@ singleOf s =
     pick (eqb (numberOf s 0 1) 0x0C) (just 1)
     (pick (leb 6 (length s) && (eqb (numberOf s 0 1) 0x0F && eqb (numberOf s 4 1) 0x0C)) (just 5) nothing)
 
--- yes, no, or none where more was read than there is
+-- yes, no, or none where it was read past the end
 abbrev pub endsAnswer : Ends → Maybe Bool
 endsAnswer Yes = just true
 endsAnswer No = just false
 endsAnswer Beyond = nothing
 
--- "the rest is empty or starts with EOF"; not at all where the instance "read past the end" of the stream
+-- as in the Rust: a stream ends where nothing is left of it or a byte 00 follows; past its end it is not told
 unfoldable pub endsOf : List ℕ → ℕ → Maybe Bool
 endsOf s consumed =
     pick (leb consumed (length s)) (just (eqb (length s) consumed || eqb (numberOf s consumed 1) 0)) nothing

@@ -11,8 +11,8 @@ use Rattle.tokens.specs.declared.Flags.{Flags}
 use Rattle.tokens.specs.declared.plain.Gist.{Gist}
 
 -- "Tokens: 0C instance; 01/41 open; 02 close start; 03 close empty; 04 close element; 05/45 value; 06/46 attribute; 07/47 CDATA;
--- 08/48 char ref (u16); 09/49 entity ref; 0A, 0B PI target and data; 0D, 0E substitution, optional for 0E".
--- "token byte unknown": 9, "after the byte"
+-- 08/48 char ref (u16); 09/49 entity ref; 0A, 0B PI target and data; 0D, 0E substitution, optional for 0E (u16 number, known type
+-- code)." "token byte unknown": 9, "after the byte"
 unfoldable pub gistAt : List ℕ → Flags → ℕ → ℕ → Answer Gist
 gistAt s f b at =
     pick (eqb b 0x0C) (instanceAt s at)

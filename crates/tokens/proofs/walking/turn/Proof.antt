@@ -2,6 +2,7 @@
 use mathlib.Core.Path.{sym, ap, _∙_, subst}
 use Rattle.cursor.specs.Answers.{u8Answer}
 use borrow.Author.Tests.{lt-ltb, le-ltb}
+use native.Mathlib.Omega.{arith}
 use lib.ListN.{length}
 use Rattle.tokens.specs.Walk.{turnAt}
 use Rattle.tokens.proofs.Reach.{Follows, byte-follows}
@@ -11,7 +12,9 @@ use Rattle.tokens.proofs.walking.turn.Tie as tie
 
 returns : tie.Need-returns
 unfolding turnAt
-returns c = simp (le-ltb _ _ (c .if1 .taken))
+returns c =
+    let a = c .before .before .args in
+    simp (le-ltb (a .at) (a .end) (omega (arith, c .if1 .taken)))
 
 u8-requires : tie.Need-u8-requires
 u8-requires c κs = search needs
@@ -30,11 +33,17 @@ enum-known-r c = search needs
 
 returns-2 : tie.Need-returns-2
 unfolding turnAt
-returns-2 c = simp (lt-ltb _ _ (c .before .before .before .before .before .if1 .left), sym (c .before .before .before .before .u8 .ensures) ∙ ap u8Answer (c .before .before .b .given .1), c .on-byte .ensures)
+returns-2 c =
+    let b = c .before .before .before .before .before in
+    let a = b .before .before .args in
+    simp (lt-ltb (a .at) (a .end) (omega (arith, b .if1 .left)), sym (c .before .before .before .before .u8 .ensures) ∙ ap u8Answer (c .before .before .b .given .1), c .on-byte .ensures)
 
 returns-3 : tie.Need-returns-3
 unfolding turnAt
-returns-3 c = simp (lt-ltb _ _ (c .before .before .before .before .if1 .left), sym (c .before .before .before .u8 .ensures) ∙ ap u8Answer (c .before .r .given .1))
+returns-3 c =
+    let b = c .before .before .before .before in
+    let a = b .before .before .args in
+    simp (lt-ltb (a .at) (a .end) (omega (arith, b .if1 .left)), sym (c .before .before .before .u8 .ensures) ∙ ap u8Answer (c .before .r .given .1))
 
 pub turn-spec : {M : Type 1} → statement M
 turn-spec =
