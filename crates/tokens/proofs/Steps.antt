@@ -1,11 +1,14 @@
 -- Steps and the walk: as many turns as there are bytes are enough. Assumes nothing.
-use mathlib.Core.Path.{_≡_, refl, ap, subst, _∙_}
+use mathlib.Core.Path.{_≡_, refl, sym, ap, subst, _∙_}
 use mathlib.Core.List.{List, [], _∷_}
 use Prim.Native.Nat.{ℕ, zero, suc, _+_, _-_, _≤_, _<_}
 use native.Mathlib.Omega.{arith}
+use borrow.Author.Tests.{leb-true}
+use lib.Dec.{leb}
 use lib.ListN.{length}
-use Rattle.cursor.specs.Answer.{Answer, given, refused}
-use Rattle.tokens.specs.Walk.{Met, handed, header, over, turnAt, onward, stepFrom, stepAt, Walked, ok, bad, before, after, walkFrom, walkAt, countedOf}
+use Rattle.cursor.specs.Answer.{Answer, given, refused, Result, gives, refuses}
+use Rattle.cursor.proofs.Choice.{either}
+use Rattle.tokens.specs.Walk.{Met, handed, header, over, turnAt, onward, stepFrom, stepAt, Walked, ok, bad, before, after, walkFrom, walkAt, windowOf, walkIn, walkOf, countedOf}
 use Rattle.tokens.specs.declared.Flags.{Flags}
 use Rattle.tokens.specs.declared.Token.{Token}
 use Rattle.cursor.specs.declared.Counted.{Counted}
@@ -136,3 +139,22 @@ plus-before n t (ok l) =
     let e : n + suc (length l) ≡ n + 1 + length l = omega arith in
     ap C.Count e
 plus-before n t (bad k p) = refl
+
+-- the walk of a stream, from what its window is known to be
+pub walk-window : (s : List ℕ) (start len : ℕ) (f : Flags) (x : Result (ℕ × ℕ)) → x ≡ windowOf s start len → walkIn s f x ≡ walkOf s start len f
+unfolding walkOf
+walk-window s start len f x e = ap (walkIn s f) e
+
+-- a window begins in the stream, which is not too long, and ends no earlier
+abbrev pub Bounded : List ℕ → Result (ℕ × ℕ) → Type 0
+Bounded s (gives (start, end)) = (start ≤ length s) × (length s ≤ 65536) × (start ≤ end)
+Bounded s (refuses k p) = Unit {0}
+
+pub window-bounded : (s : List ℕ) (start len : ℕ) (x : Result (ℕ × ℕ)) → x ≡ windowOf s start len → Bounded s x
+window-bounded s start len x e =
+    subst (Bounded s) (sym e)
+    (either (Bounded s) (leb (length s) 65536) _ _
+    (λ h. either (Bounded s) (leb start (length s)) _ _
+    (λ k. (leb-true start (length s) k, leb-true (length s) 65536 h, omega arith))
+    (λ k. tt {0}))
+    (λ h. tt {0}))

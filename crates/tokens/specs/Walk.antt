@@ -3,7 +3,7 @@ use mathlib.Core.List.{List, [], _∷_}
 use Prim.Native.Nat.{ℕ, zero, suc, _+_, _-_}
 use lib.Dec.{eqb, leb, ltb}
 use lib.ListN.{length}
-use Rattle.cursor.specs.Answer.{Answer, given, refused, _then_, pick}
+use Rattle.cursor.specs.Answer.{Answer, given, refused, Result, gives, refuses, _then_, pick}
 use Rattle.cursor.specs.Answers.{refusal}
 use Rattle.cursor.specs.Reads.{numberAt}
 use Rattle.cursor.specs.Refusals.{wrongLength, pastEnd}
@@ -15,6 +15,8 @@ use Rattle.cursor.specs.declared.Counted.{Counted}
 use Rattle.cursor.specs.declared.Counted.the-variants as C
 use Rattle.tokens.specs.declared.Stepped.{Stepped}
 use Rattle.tokens.specs.declared.Stepped.the-variants as S
+use Rattle.tokens.specs.declared.Window.{Window}
+use Rattle.tokens.specs.declared.Window.the-variants as W
 
 -- what the walk meets: a token to hand on, a fragment header, or its end
 pub data Met : Type 0 where
@@ -88,10 +90,23 @@ walkFrom (suc steps) s end f at = after (stepAt s end f at) (walkFrom steps s en
 abbrev pub walkAt : List ℕ → ℕ → Flags → ℕ → Walked
 walkAt s end f at = walkFrom (suc (length s - at)) s end f at
 
--- "stream longer than that" (65,536 bytes): 1 at 0. "Start beyond the stream: 2." "Order: 1; then the walk's, first met"
+-- Where a walk reads: from where on, and up to where a token may begin. "stream longer than that" (65,536 bytes): 1 at 0. "Start beyond the
+-- stream: 2." "Order: 1; then the walk's, first met"
+abbrev pub windowOf : List ℕ → ℕ → ℕ → Result (ℕ × ℕ)
+windowOf s start len =
+    pick (leb (length s) 65536) (pick (leb start (length s)) (gives (start, start + len)) (refuses pastEnd start)) (refuses wrongLength 0)
+
+abbrev pub windowAnswer : Window → Result (ℕ × ℕ)
+windowAnswer (W.From start end) = gives (start, end)
+windowAnswer (W.Refused r) = refuses (r .number) (r .place)
+
+-- the walk of a stream, from its window
+abbrev pub walkIn : List ℕ → Flags → Result (ℕ × ℕ) → Walked
+walkIn s f (gives (start, end)) = walkAt s end f start
+walkIn s f (refuses k p) = bad k p
+
 unfoldable pub walkOf : List ℕ → ℕ → ℕ → Flags → Walked
-walkOf s start len f =
-    pick (leb (length s) 65536) (pick (leb start (length s)) (walkAt s (start + len) f start) (bad pastEnd start)) (bad wrongLength 0)
+walkOf s start len f = walkIn s f (windowOf s start len)
 
 -- how many tokens there are
 abbrev pub countedOf : Walked → Counted

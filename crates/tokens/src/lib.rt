@@ -1,4 +1,4 @@
-// The token walk of a stream: one step, the values of an instance, the whole walk, and the single instance. The Rust: binxml/tokens.rs.
+// The token walk of a stream: one step, where a walk reads, the values of an instance, and the single instance. The Rust: binxml/tokens.rs.
 //
 // A step goes from a position to the next token and hands out where the walk reads on. Every call takes every stream and every number.
 mod plain;
@@ -17,7 +17,7 @@ use walking::Turned;
 ghost use mathlib.Core.Path.{_≡_};
 ghost use Rattle.tokens.specs.Single.{singleAnswer, singleOf, endsAnswer, endsOf};
 ghost use Rattle.tokens.specs.Instance.{valuesOf, nextAnswer, nextOf};
-ghost use Rattle.tokens.specs.Walk.{stepAnswer, stepAt, walkOf, countedOf};
+ghost use Rattle.tokens.specs.Walk.{stepAnswer, stepAt, windowAnswer, windowOf, walkOf, countedOf};
 
 // How a stream is read: whether open tokens carry dependencies, and whether names stand inline.
 pub struct Flags {
@@ -59,6 +59,12 @@ pub struct Token {
 pub enum Stepped {
     Token(Token, Cursor),
     End(Cursor),
+    Refused(Refusal),
+}
+
+// Where a walk reads: its first position, and the first at which no token begins.
+pub enum Window {
+    From(usize, usize),
     Refused(Refusal),
 }
 
@@ -166,6 +172,26 @@ pub fn step(s: &[u8], at: usize, end: usize, flags: Flags) -> Stepped
             Turned::Refused(r) => return Stepped::Refused(r),
         }
     }
+}
+
+// Where a walk reads: the tests that come before it. A sum of two u32 does not wrap.
+pub fn window_of(s: &[u8], start: u32, length: u32) -> Window
+    ensures { λ r. ⌜ windowAnswer r ≡ windowOf (now (s .entry)) start length ⌝ }
+{
+    if 0x1_0000 < s.len() {
+        return Window::Refused(Refusal {
+            number: Refusal::WRONG_LENGTH,
+            place: 0,
+        });
+    }
+    let from = start as usize;
+    if s.len() < from {
+        return Window::Refused(Refusal {
+            number: Refusal::PAST_END,
+            place: from,
+        });
+    }
+    Window::From(from, from + length as usize)
 }
 
 // How many tokens the whole walk hands on.
