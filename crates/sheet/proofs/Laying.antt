@@ -4,19 +4,16 @@ use mathlib.Core.List.{List, [], _∷_, _++_, map}
 use Prim.Native.Nat.{ℕ, suc, _+_, _-_, _*_, _≤_, _<_}
 use native.Mathlib.Omega.{arith}
 use borrow.Author.Tests.{le-leb, lt-leb}
-use lib.Dec.{leb}
-use lib.ListN.{length, getD, take, drop, set, length-append, length-drop, length-map, length-take}
+use lib.ListN.{length, getD, take, drop, set, length-append, length-drop, length-map}
 use lib.Seq.{sets, sets-eq, length-sets, take-at, take-all, take-suc, length-take-le, drop-cons, set-append-seam, append-snoc}
-use Rattle.cursor.specs.Answer.{pick}
+use Rattle.cursor.specs.Answer.{Result, gives, refuses}
 use Rattle.cursor.specs.Lent.{laid}
-use Rattle.cursor.specs.Refusals.{wrongLength, pastEnd, noRoom}
-use Rattle.cursor.specs.declared.Counted.{Counted}
-use Rattle.cursor.specs.declared.Counted.the-variants as C
-use Rattle.cursor.specs.declared.Refusal.{Refusal}
-use Rattle.tokens.specs.Walk.{Walked, ok, bad, walkAt, walkOf, countedOf}
+use Rattle.cursor.specs.Refusals.{noRoom}
+use Rattle.tokens.specs.Walk.{Walked, ok, bad, walkAt, countedOf}
 use Rattle.tokens.specs.declared.Flags.{Flags}
 use Rattle.tokens.specs.declared.Token.{Token}
-use Rattle.sheet.specs.Sheet.{wordsOf, sheetAnswer, sheetWords, laidAnswer, laidWords, readAt}
+use Rattle.sheet.specs.Sheet.{wordsOfToken, wordsPerToken, wordsOf, sheetAnswer, sheetWords, readAt}
+use Rattle.sheet.specs.Noted.{Noted}
 use Rattle.sheet.proofs.Noting.{read-all, read-short, read-within}
 
 -- one word more
@@ -46,24 +43,19 @@ module _ (words lent : List ℕ) (room : length words ≤ length lent) (i : ℕ)
   pub laid-whole : (sheet : List ℕ) → i ≡ length words → sheet ≡ laid (take i words) lent → sheet ≡ laid words lent
   laid-whole sheet h e = e ∙ ap (λ (x : List ℕ). laid x lent) (take-all i words (omega arith))
 
-  pub laid-all : (sheet : List ℕ) → i ≡ length words → sheet ≡ laid (take i words) lent → (C.Count (length words) ≡ laidAnswer words lent) × (sheet ≡ laidWords words lent)
-  laid-all sheet h e =
-      let b = le-leb (length words) (length lent) room in
-      (rw b, laid-whole sheet h e ∙ rw b)
-
-pub laid-none : (words lent : List ℕ) → length lent < length words
-    → (C.Refused (record { number = noRoom; place = length words }) ≡ laidAnswer words lent) × (lent ≡ laidWords words lent)
-laid-none words lent h = let b = lt-leb (length words) (length lent) h in (rw b, rw b)
-
 -- a walk that has n tokens
-pub counted-is : (w : Walked) (n : ℕ) → countedOf w ≡ C.Count n → (l : List Token) × ((w ≡ ok l) × (length l ≡ n))
+pub counted-is : (w : Walked) (n : ℕ) → countedOf w ≡ gives n → (l : List Token) × ((w ≡ ok l) × (length l ≡ n))
 counted-is (ok l) n e = (l, (refl, cc))
 counted-is (bad k p) n e = let z : _≡_ {A = ℕ} 0 1 = cc in absurd (omega arith)
 
 -- a walk that is refused
-pub walk-refused : (w : Walked) (lent : List ℕ) (r : Refusal) → countedOf w ≡ C.Refused r → (C.Refused r ≡ sheetAnswer w lent) × (lent ≡ sheetWords w lent)
-walk-refused (ok l) lent r e = let z : _≡_ {A = ℕ} 0 1 = cc in absurd (omega arith)
-walk-refused (bad k p) lent r e = (let y : r ≡ record { number = k; place = p } = cc in ap C.Refused y, refl)
+pub walk-refused : (w : Walked) (lent : List ℕ) (k p : ℕ) → countedOf w ≡ refuses k p → (refuses k p ≡ sheetAnswer w lent) × (lent ≡ sheetWords w lent)
+walk-refused (ok l) lent k p e = let z : _≡_ {A = ℕ} 0 1 = cc in absurd (omega arith)
+walk-refused (bad m q) lent k p e = (sym e, refl)
+
+-- what is said of a walk is said of the same walk under another name
+pub walk-as : (v w : Walked) (lent left : List ℕ) (r : Result ℕ) → w ≡ v → (r ≡ sheetAnswer w lent) × (left ≡ sheetWords w lent) → (r ≡ sheetAnswer v lent) × (left ≡ sheetWords v lent)
+walk-as v w lent left r e h = subst (λ (x : Walked). (r ≡ sheetAnswer x lent) × (left ≡ sheetWords x lent)) e h
 
 -- words set from the front on stand at the front
 pub front : (lent words : List ℕ) → length words ≤ length lent → take (length words) (sets lent 0 words) ≡ words
@@ -71,8 +63,20 @@ front lent words h =
     let b : 0 + length words ≤ length lent = omega arith in
     ap (take (length words)) (sets-eq words lent 0 b) ∙ take-at words (drop (0 + length words) lent) (length words) refl
 
+-- and where there is room they are laid
+pub set-laid : (lent words : List ℕ) → length words ≤ length lent → sets lent 0 words ≡ laid words lent
+set-laid lent words h =
+    let b : 0 + length words ≤ length lent = omega arith in
+    let z : 0 + length words ≡ length words = omega arith in
+    sets-eq words lent 0 b ∙ ap (λ (i : ℕ). words ++ drop i lent) z
+
+-- a token has so many words
+pub words-length : (l : List Token) → length (wordsOf l) ≡ length l * wordsPerToken
+words-length [] = refl
+words-length (t ∷ l) = length-append (wordsOfToken t) (wordsOf l) ∙ (omega (arith, words-length l))
+
 -- a walk of n tokens whose numbers were noted in a buffer
-module _ (s : List ℕ) (end : ℕ) (f : Flags) (start n : ℕ) (c : countedOf (walkAt s end f start) ≡ C.Count n) where
+module _ (s : List ℕ) (end : ℕ) (f : Flags) (start n : ℕ) (c : countedOf (walkAt s end f start) ≡ gives n) where
   pub all-read : (l : List Token) × ((walkAt s end f start ≡ ok l) × (readAt s end f start ≡ l) × (length l ≡ n))
   all-read =
       let y = counted-is (walkAt s end f start) n c in
@@ -86,76 +90,41 @@ module _ (s : List ℕ) (end : ℕ) (f : Flags) (start n : ℕ) (c : countedOf (
         omega (arith, y .1 .2, ap length (y .1 .1), read-within s end f start),
       )
 
+  noted-front : (words lent left : List ℕ) (m : ℕ) → length words ≡ m → left ≡ sets lent 0 words → m ≤ length left → take m left ≡ words
+  noted-front words lent left m e k room =
+      let b : length words ≤ length lent = omega (arith, e, ap length k, length-sets lent 0 words) in
+      ap (take m) k ∙ ap (λ (i : ℕ). take i (sets lent 0 words)) (sym e) ∙ front lent words b
+
+  -- a number for each token
   pub noted : (g : Token → ℕ) (lent left : List ℕ) → left ≡ sets lent 0 (map g (readAt s end f start)) → n ≤ length left
       → take n left ≡ map g (readAt s end f start)
   noted g lent left k room =
       let y = all-read in
-      let m : length (map g (readAt s end f start)) ≡ n = length-map (readAt s end f start) g ∙ ap length (y .1 .1) ∙ y .1 .2 in
-      let b : length (map g (readAt s end f start)) ≤ length lent = omega (arith, m, ap length k, length-sets lent 0 (map g (readAt s end f start))) in
-      ap (take n) k ∙ ap (λ (i : ℕ). take i (sets lent 0 (map g (readAt s end f start)))) (sym m) ∙ front lent (map g (readAt s end f start)) b
+      noted-front (map g (readAt s end f start)) lent left n (length-map (readAt s end f start) g ∙ ap length (y .1 .1) ∙ y .1 .2) k room
 
--- the words of a walk, laid: answer and sheet
-laid-list : (l : List Token) (words lent : List ℕ) → words ≡ wordsOf l → (laidAnswer words lent ≡ sheetAnswer (ok l) lent) × (laidWords words lent ≡ sheetWords (ok l) lent)
-laid-list l words lent e =
-    let m : length words ≡ 1 * length l = ap length e ∙ length-map l _ ∙ (omega arith) in
-    let q : length words ≡ length l = omega arith in (
-      ap (λ (k : ℕ). pick (leb k (length lent)) (C.Count (length words)) (C.Refused (record { number = noRoom; place = length words }))) m
-          ∙ ap (λ (k : ℕ). pick (leb (1 * length l) (length lent)) (C.Count k) (C.Refused (record { number = noRoom; place = length words }))) q
-          ∙ ap (λ (k : ℕ). pick (leb (1 * length l) (length lent)) (C.Count (length l)) (C.Refused (record { number = noRoom; place = k }))) m,
-      ap (λ (k : ℕ). pick (leb k (length lent)) (laid words lent) lent) m ∙ ap (λ (w : List ℕ). pick (leb (1 * length l) (length lent)) (laid w lent) lent) e,
-    )
+  -- the sheet's words
+  pub word-count : length (wordsOf (readAt s end f start)) ≡ n * wordsPerToken
+  word-count =
+      let y = all-read in
+      words-length (readAt s end f start) ∙ ap (λ (k : ℕ). k * wordsPerToken) (ap length (y .1 .1) ∙ y .1 .2)
 
-pub walk-laid : (w : Walked) (l : List Token) (words lent left : List ℕ) (r : Counted) → w ≡ ok l → words ≡ wordsOf l → r ≡ laidAnswer words lent → left ≡ laidWords words lent
-    → (r ≡ sheetAnswer w lent) × (left ≡ sheetWords w lent)
-walk-laid w l words lent left r e h a b =
-    let y = laid-list l words lent h in
-    (a ∙ y .0 ∙ ap (λ (v : Walked). sheetAnswer v lent) (sym e), b ∙ y .1 ∙ ap (λ (v : Walked). sheetWords v lent) (sym e))
+  pub words-noted : (lent left : List ℕ) → left ≡ sets lent 0 (wordsOf (readAt s end f start)) → Noted s end f start n left
+  words-noted lent left k room = noted-front (wordsOf (readAt s end f start)) lent left (n * wordsPerToken) word-count k room
 
--- a stream that is not too long, from a start within it; one that is too long; a start beyond its end
-pub walk-within : (s : List ℕ) (start len : ℕ) (f : Flags) → length s ≤ 65536 → start ≤ length s → walkOf s start len f ≡ walkAt s (start + len) f start
-unfolding walkOf
-walk-within s start len f h k = rw (le-leb (length s) 65536 h, le-leb start (length s) k)
+  -- the answer and the sheet, where its words are laid and where they have no room
+  pub sheet-laid : (lent left : List ℕ) → n * wordsPerToken ≤ length lent → left ≡ laid (wordsOf (readAt s end f start)) lent
+      → (gives n ≡ sheetAnswer (walkAt s end f start) lent) × (left ≡ sheetWords (walkAt s end f start) lent)
+  sheet-laid lent left h k =
+      let y = all-read in
+      let w : wordsOf (readAt s end f start) ≡ wordsOf (y .0) = ap wordsOf (y .1 .1) in
+      let b = le-leb (length (wordsOf (y .0))) (length lent) (omega (arith, ap length w, word-count)) in
+      walk-as (walkAt s end f start) (ok (y .0)) lent left (gives n) (sym (y .1 .0))
+      (ap gives (sym (y .1 .2)) ∙ rw b, k ∙ ap (λ (x : List ℕ). laid x lent) w ∙ rw b)
 
-pub too-long : (s : List ℕ) (start len : ℕ) (f : Flags) → 65536 < length s → walkOf s start len f ≡ bad wrongLength 0
-unfolding walkOf
-too-long s start len f h = rw (lt-leb (length s) 65536 h)
-
-pub beyond : (s : List ℕ) (start len : ℕ) (f : Flags) → length s ≤ 65536 → length s < start → walkOf s start len f ≡ bad pastEnd start
-unfolding walkOf
-beyond s start len f h k = rw (le-leb (length s) 65536 h, lt-leb start (length s) k)
-
--- words that stand at the front of a buffer
-pub front-laid : (s : List ℕ) (end : ℕ) (f : Flags) (start n : ℕ) (words lent left : List ℕ) (r : Counted) → countedOf (walkAt s end f start) ≡ C.Count n
-    → words ≡ wordsOf (readAt s end f start) → r ≡ laidAnswer words lent → left ≡ laidWords words lent
-    → (r ≡ sheetAnswer (walkAt s end f start) lent) × (left ≡ sheetWords (walkAt s end f start) lent)
-front-laid s end f start n words lent left r c h a b =
-    let y = all-read s end f start n c in
-    walk-laid (walkAt s end f start) (y .0) words lent left r (y .1 .0) (h ∙ ap wordsOf (y .1 .1)) a b
-
--- words that are set into the sheet itself, and none where there is no room
-module _ (s : List ℕ) (end : ℕ) (f : Flags) (start n : ℕ) (lent : List ℕ) (c : countedOf (walkAt s end f start) ≡ C.Count n) where
-  count-of : length (wordsOf (readAt s end f start)) ≡ n
-  count-of = let y = all-read s end f start n c in length-map (readAt s end f start) _ ∙ ap length (y .1 .1) ∙ y .1 .2
-
-  pub set-laid : (left : List ℕ) → n ≤ length lent → left ≡ sets lent 0 (wordsOf (readAt s end f start))
-      → (C.Count n ≡ sheetAnswer (walkAt s end f start) lent) × (left ≡ sheetWords (walkAt s end f start) lent)
-  set-laid left h k =
-      let w = wordsOf (readAt s end f start) in
-      let m = count-of in
-      let b : 0 + length w ≤ length lent = omega (arith, m) in
-      let t = le-leb (length w) (length lent) (omega (arith, m)) in
-      let z : length w ≡ 0 + length w = omega arith in
-      front-laid s end f start n w lent left (C.Count n) c refl (ap C.Count (sym m) ∙ rw t)
-      (k ∙ sets-eq w lent 0 b ∙ ap (λ (i : ℕ). w ++ drop i lent) (sym z) ∙ rw t)
-
-  pub no-room : length lent < n → (C.Refused (record { number = noRoom; place = n }) ≡ sheetAnswer (walkAt s end f start) lent) × (lent ≡ sheetWords (walkAt s end f start) lent)
-  no-room h =
-      let w = wordsOf (readAt s end f start) in
-      let m = count-of in
-      let t = lt-leb (length w) (length lent) (omega (arith, m)) in
-      front-laid s end f start n w lent lent (C.Refused (record { number = noRoom; place = n })) c refl
-      (ap (λ (i : ℕ). C.Refused (record { number = noRoom; place = i })) (sym m) ∙ rw t) (rw t)
-
--- what is said of a walk is said of the same walk under another name
-pub walk-as : (v w : Walked) (lent left : List ℕ) (r : Counted) → v ≡ w → (r ≡ sheetAnswer w lent) × (left ≡ sheetWords w lent) → (r ≡ sheetAnswer v lent) × (left ≡ sheetWords v lent)
-walk-as v w lent left r e h = subst (λ (x : Walked). (r ≡ sheetAnswer x lent) × (left ≡ sheetWords x lent)) (sym e) h
+  pub sheet-short : (lent : List ℕ) → length lent < n * wordsPerToken
+      → (refuses noRoom (n * wordsPerToken) ≡ sheetAnswer (walkAt s end f start) lent) × (lent ≡ sheetWords (walkAt s end f start) lent)
+  sheet-short lent h =
+      let y = all-read in
+      let m : n * wordsPerToken ≡ length (wordsOf (y .0)) = sym word-count ∙ ap (λ (l : List Token). length (wordsOf l)) (y .1 .1) in
+      let b = lt-leb (length (wordsOf (y .0))) (length lent) (omega (arith, m)) in
+      walk-as (walkAt s end f start) (ok (y .0)) lent lent (refuses noRoom (n * wordsPerToken)) (sym (y .1 .0)) (ap (refuses noRoom) m ∙ rw b, rw b)

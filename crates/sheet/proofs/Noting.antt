@@ -1,19 +1,50 @@
 -- The tokens that a walk hands on, one after the other, and their words in a buffer. Assumes nothing.
 use mathlib.Core.Path.{_≡_, refl, sym, ap, subst, _∙_}
-use mathlib.Core.List.{List, [], _∷_, map}
-use Prim.Native.Nat.{ℕ, zero, suc, _+_, _-_, _≤_, _<_}
+use mathlib.Core.List.{List, [], _∷_, _++_}
+use Prim.Native.Nat.{ℕ, zero, suc, _+_, _-_, _*_, _≤_, _<_}
+use native.Mathlib.Nat.{add-zero, zero-mul, one-mul, mul-one, add-mul}
 use native.Mathlib.Omega.{arith}
 use native.Mathlib.Decide.{decLt}
 use borrow.Author.Tests.{le-ltb}
-use lib.ListN.{length, set, length-set}
-use lib.Seq.{sets}
+use lib.ListN.{length, set}
+use lib.Seq.{sets, length-sets}
 use Rattle.cursor.specs.Answer.{Answer, given, refused}
 use Rattle.tokens.specs.Walk.{Met, handed, header, over, Walked, ok, bad, before, after, turnAt, stepAt, walkFrom, walkAt}
 use Rattle.tokens.specs.declared.Flags.{Flags}
 use Rattle.tokens.specs.declared.Token.{Token}
 use Rattle.tokens.proofs.Reach.{Grows}
 use Rattle.tokens.proofs.Steps.{step-grows, step-is}
-use Rattle.sheet.specs.Sheet.{handedOn, readFrom, readAt}
+use Rattle.sheet.specs.Sheet.{wordsOfToken, wordsPerToken, wordsOf, markOf, kindsOf, handedOn, readFrom, readAt}
+
+-- numbers of tokens, one token's after another's, so many for each
+pub record Numbers : Type 0 where
+  pub each : List Token → List ℕ
+  pub one : Token → List ℕ
+  pub width : ℕ
+  pub none : each [] ≡ []
+  pub more : (t : Token) (l : List Token) → each (t ∷ l) ≡ one t ++ each l
+  pub wide : (t : Token) → length (one t) ≡ width
+
+-- the sheet's words, and what the grammar reads
+abbrev pub words : Numbers
+words = record { each = wordsOf; one = wordsOfToken; width = wordsPerToken; none = refl; more = λ t l. refl; wide = λ t. refl }
+
+abbrev pub marks : Numbers
+marks = record { each = kindsOf; one = λ t. markOf t ∷ []; width = 1; none = refl; more = λ t l. refl; wide = λ t. refl }
+
+-- one number set, under another name; and at n, which is n times 1
+pub put-one : (left next : List ℕ) (i a b : ℕ) → next ≡ set left i a → a ≡ b → next ≡ sets left i (b ∷ [])
+put-one left next i a b h e = h ∙ ap (set left i) e
+
+pub set-one : (left next : List ℕ) (n a b : ℕ) → next ≡ set left n a → a ≡ b → next ≡ sets left (n * 1) (b ∷ [])
+set-one left next n a b h e = put-one left next n a b h e ∙ ap (λ (i : ℕ). set left i b) (sym (mul-one n))
+
+-- more numbers set behind those that are set
+sets-more : (a b l : List ℕ) (i : ℕ) → sets (sets l i a) (i + length a) b ≡ sets l i (a ++ b)
+sets-more [] b l i = ap (λ (k : ℕ). sets l k b) (add-zero i)
+sets-more (x ∷ a) b l i =
+    let e : i + suc (length a) ≡ suc i + length a = omega arith in
+    ap (λ (k : ℕ). sets (sets (set l i x) (suc i) a) k b) e ∙ sets-more a b (set l i x) (suc i)
 
 handed-same : (at high : ℕ) (x : Answer Met) (go to : ℕ → List Token) → Grows at high x → ((n : ℕ) → at < n → n ≤ high → go n ≡ to n)
     → handedOn x go ≡ handedOn x to
@@ -110,34 +141,40 @@ module _ (s : List ℕ) (end : ℕ) (f : Flags) where
   pub read-within : (at : ℕ) → length (readAt s end f at) ≤ end - at
   read-within at = within-from (suc (length s - at)) at
 
-  -- what a buffer holds when the walk stands at `at` after n tokens, for a number of each token
-  pub record Noting (g : Token → ℕ) (start at n : ℕ) (lent left : List ℕ) : Type 0 where
-    pub same : sets left n (map g (readAt s end f at)) ≡ sets lent 0 (map g (readAt s end f start))
+  -- what a buffer holds when the walk stands at `at` after n tokens
+  pub record Noting (g : Numbers) (start at n : ℕ) (lent left : List ℕ) : Type 0 where
+    pub same : sets left (n * g .width) (g .each (readAt s end f at)) ≡ sets lent 0 (g .each (readAt s end f start))
     pub kept : length left ≡ length lent
 
-  module _ (g : Token → ℕ) (start : ℕ) where
+  module _ (g : Numbers) (start : ℕ) where
     pub noting-start : (lent : List ℕ) → Noting g start start 0 lent lent
-    noting-start lent = record { same = refl; kept = refl }
+    noting-start lent = record { same = ap (λ (i : ℕ). sets lent i (g .each (readAt s end f start))) (zero-mul (g .width)); kept = refl }
 
     module _ (at n : ℕ) (lent left : List ℕ) (y : Noting g start at n lent left) where
-      pub noting-next : (t : Token) (m : ℕ) → stepAt s end f at ≡ given (handed t) m → (w : ℕ) → w ≡ g t → (next : List ℕ) → next ≡ set left n w
+      -- the numbers of the next token are set behind
+      pub noting-next : (t : Token) (m : ℕ) → stepAt s end f at ≡ given (handed t) m → (next : List ℕ) → next ≡ sets left (n * g .width) (g .one t)
           → Noting g start m (n + 1) lent next
-      noting-next t m e w v next h =
-          let a : next ≡ set left n (g t) = h ∙ ap (set left n) v in
-          let b : n + 1 ≡ suc n = omega arith in
+      noting-next t m e next h =
+          let rest = g .each (readAt s end f m) in
+          let i : (n + 1) * g .width ≡ n * g .width + length (g .one t) =
+          add-mul n 1 (g .width) ∙ ap (λ (k : ℕ). n * g .width + k) (one-mul (g .width) ∙ sym (g .wide t)) in
           record {
             same =
-                ap (λ (x : List ℕ). sets x (n + 1) (map g (readAt s end f m))) a
-                ∙ ap (λ (k : ℕ). sets (set left n (g t)) k (map g (readAt s end f m))) b
-                ∙ ap (λ (l : List Token). sets left n (map g l)) (sym (read-token at m t e)) ∙ y .same;
-            kept = ap length a ∙ length-set left n (g t) ∙ y .kept;
+                ap (λ (x : List ℕ). sets x ((n + 1) * g .width) rest) h
+                ∙ ap (λ (k : ℕ). sets (sets left (n * g .width) (g .one t)) k rest) i
+                ∙ sets-more (g .one t) rest left (n * g .width)
+                ∙ ap (sets left (n * g .width)) (sym (g .more t (readAt s end f m)))
+                ∙ ap (λ (l : List Token). sets left (n * g .width) (g .each l)) (sym (read-token at m t e)) ∙ y .same;
+            kept = ap length h ∙ length-sets left (n * g .width) (g .one t) ∙ y .kept;
           }
 
-      noting-over : (x : Answer Met) → stepAt s end f at ≡ x → handedOn x (readFrom (length s - at) s end f) ≡ [] → left ≡ sets lent 0 (map g (readAt s end f start))
-      noting-over x e h = ap (λ (l : List Token). sets left n (map g l)) (sym (read-is at x e ∙ h)) ∙ y .same
+      noting-over : (x : Answer Met) → stepAt s end f at ≡ x → handedOn x (readFrom (length s - at) s end f) ≡ [] → left ≡ sets lent 0 (g .each (readAt s end f start))
+      noting-over x e h =
+          ap (sets left (n * g .width)) (sym (g .none))
+          ∙ ap (λ (l : List Token). sets left (n * g .width) (g .each l)) (sym (read-is at x e ∙ h)) ∙ y .same
 
-      pub noting-last : (m : ℕ) → stepAt s end f at ≡ given over m → left ≡ sets lent 0 (map g (readAt s end f start))
+      pub noting-last : (m : ℕ) → stepAt s end f at ≡ given over m → left ≡ sets lent 0 (g .each (readAt s end f start))
       noting-last m e = noting-over (given over m) e refl
 
-      pub noting-refused : (k p : ℕ) → stepAt s end f at ≡ refused k p → left ≡ sets lent 0 (map g (readAt s end f start))
+      pub noting-refused : (k p : ℕ) → stepAt s end f at ≡ refused k p → left ≡ sets lent 0 (g .each (readAt s end f start))
       noting-refused k p e = noting-over (refused k p) e refl

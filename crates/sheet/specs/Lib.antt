@@ -1,2 +1,3 @@
 -- The definitions that the contracts of `sheet` cite.
 pub mod Sheet
+pub mod Noted

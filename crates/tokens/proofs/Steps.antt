@@ -11,8 +11,6 @@ use Rattle.cursor.proofs.Choice.{either}
 use Rattle.tokens.specs.Walk.{Met, handed, header, over, turnAt, onward, stepFrom, stepAt, Walked, ok, bad, before, after, walkFrom, walkAt, windowOf, walkIn, walkOf, countedOf}
 use Rattle.tokens.specs.declared.Flags.{Flags}
 use Rattle.tokens.specs.declared.Token.{Token}
-use Rattle.cursor.specs.declared.Counted.{Counted}
-use Rattle.cursor.specs.declared.Counted.the-variants as C
 use Rattle.tokens.proofs.Reach.{Grows, turn-grows}
 
 grows-lower : (low n high : ℕ) (a : Answer Met) → low < n → Grows n high a → Grows low high a
@@ -119,25 +117,25 @@ walk-inside s end f zero at = tt {0}
 walk-inside s end f (suc steps) at = inside-after at (length s) (stepAt s end f at) (walkFrom steps s end f) (step-grows s end f at) (walk-inside s end f steps)
 
 -- n tokens and those of a walk
-abbrev pub plus : ℕ → Walked → Counted
-plus n (ok l) = C.Count (n + length l)
-plus n (bad k p) = C.Refused (record { number = k; place = p })
+abbrev pub plus : ℕ → Walked → Result ℕ
+plus n (ok l) = gives (n + length l)
+plus n (bad k p) = refuses k p
 
 pub plus-zero : (w : Walked) → countedOf w ≡ plus 0 w
 plus-zero (ok l) =
     let e : length l ≡ 0 + length l = omega arith in
-    ap C.Count e
+    ap gives e
 plus-zero (bad k p) = refl
 
-pub plus-none : (n : ℕ) → plus n (ok []) ≡ C.Count n
+pub plus-none : (n : ℕ) → plus n (ok []) ≡ gives n
 plus-none n =
     let e : n + 0 ≡ n = omega arith in
-    ap C.Count e
+    ap gives e
 
 pub plus-before : (n : ℕ) (t : Token) (w : Walked) → plus n (before t w) ≡ plus (n + 1) w
 plus-before n t (ok l) =
     let e : n + suc (length l) ≡ n + 1 + length l = omega arith in
-    ap C.Count e
+    ap gives e
 plus-before n t (bad k p) = refl
 
 -- the walk of a stream, from what its window is known to be

@@ -11,8 +11,6 @@ use Rattle.tokens.specs.Table.{gistAt}
 use Rattle.tokens.specs.declared.Flags.{Flags}
 use Rattle.tokens.specs.declared.plain.Gist.{Gist}
 use Rattle.tokens.specs.declared.Token.{Token}
-use Rattle.cursor.specs.declared.Counted.{Counted}
-use Rattle.cursor.specs.declared.Counted.the-variants as C
 use Rattle.tokens.specs.declared.Stepped.{Stepped}
 use Rattle.tokens.specs.declared.Stepped.the-variants as S
 use Rattle.tokens.specs.declared.Window.{Window}
@@ -109,6 +107,6 @@ unfoldable pub walkOf : List ℕ → ℕ → ℕ → Flags → Walked
 walkOf s start len f = walkIn s f (windowOf s start len)
 
 -- how many tokens there are
-abbrev pub countedOf : Walked → Counted
-countedOf (ok l) = C.Count (length l)
-countedOf (bad k p) = C.Refused (record { number = k; place = p })
+abbrev pub countedOf : Walked → Result ℕ
+countedOf (ok l) = gives (length l)
+countedOf (bad k p) = refuses k p

@@ -5,7 +5,6 @@ mod plain;
 mod template;
 mod walking;
 
-use cursor::Counted;
 use cursor::Cursor;
 use cursor::Part;
 use cursor::Refusal;
@@ -17,7 +16,7 @@ use walking::Turned;
 ghost use mathlib.Core.Path.{_≡_};
 ghost use Rattle.tokens.specs.Single.{singleAnswer, singleOf, endsAnswer, endsOf};
 ghost use Rattle.tokens.specs.Instance.{valuesOf, nextAnswer, nextOf};
-ghost use Rattle.tokens.specs.Walk.{stepAnswer, stepAt, windowAnswer, windowOf, walkOf, countedOf};
+ghost use Rattle.tokens.specs.Walk.{stepAnswer, stepAt, windowAnswer, windowOf};
 
 // How a stream is read: whether open tokens carry dependencies, and whether names stand inline.
 pub struct Flags {
@@ -192,25 +191,6 @@ pub fn window_of(s: &[u8], start: u32, length: u32) -> Window
         });
     }
     Window::From(from, from + length as usize)
-}
-
-// How many tokens the whole walk hands on.
-pub fn count(s: &[u8], start: u32, length: u32, flags: Flags) -> Counted
-    ensures { λ r. ⌜ r ≡ countedOf (walkOf (now (s .entry)) start length flags) ⌝ }
-{
-    if 0x1_0000 < s.len() {
-        return Counted::Refused(Refusal {
-            number: Refusal::WRONG_LENGTH,
-            place: 0,
-        });
-    }
-    if s.len() < start as usize {
-        return Counted::Refused(Refusal {
-            number: Refusal::PAST_END,
-            place: start as usize,
-        });
-    }
-    walking::count_from(s, start as usize, start as usize + length as usize, flags)
 }
 
 impl Values {

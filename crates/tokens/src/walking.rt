@@ -1,13 +1,10 @@
 // One turn of the walk: a token, a fragment header, the end, or a refusal.
 use crate::Flags;
-use crate::Stepped;
 use crate::Token;
 use crate::plain;
 use crate::plain::Gist;
 use crate::plain::GistRead;
-use crate::step;
 use crate::template;
-use cursor::Counted;
 use cursor::Cursor;
 use cursor::Moved;
 use cursor::ReadU8;
@@ -17,7 +14,7 @@ ghost use Prim.Native.Nat.{_+_, _≤_};
 ghost use lib.ListN.{length};
 ghost use Rattle.cursor.specs.Answers.{movedAnswer};
 ghost use Rattle.tokens.specs.Table.{gistAt};
-ghost use Rattle.tokens.specs.Walk.{turnAt, tokenOf, headerAt, walkAt, countedOf};
+ghost use Rattle.tokens.specs.Walk.{turnAt, tokenOf, headerAt};
 ghost use Rattle.tokens.specs.Pieces.{gistAnswer, turnAnswer, turnAfterByte, headerAfterMajor, headerAfterMinor, metToken, metHeader, EndsAfter};
 
 pub enum Turned {
@@ -123,23 +120,5 @@ fn after_minor(c: Cursor, s: &[u8]) -> Moved
     match c.u8(s) {
         ReadU8::Value(_, next) => Moved::To(next),
         ReadU8::Refused(r) => Moved::Refused(r),
-    }
-}
-
-// The tokens from a position on.
-pub(crate) fn count_from(s: &[u8], start: usize, end: usize, flags: Flags) -> Counted
-    ensures { λ r. ⌜ r ≡ countedOf (walkAt (now (s .entry)) end flags start) ⌝ }
-{
-    let mut at = start;
-    let mut n: usize = 0;
-    loop {
-        match step(s, at, end, flags) {
-            Stepped::Token(_, next) => {
-                at = next.at;
-                n += 1;
-            }
-            Stepped::End(_) => return Counted::Count(n),
-            Stepped::Refused(r) => return Counted::Refused(r),
-        }
     }
 }

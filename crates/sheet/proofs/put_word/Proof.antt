@@ -1,4 +1,4 @@
--- `put_word` meets its contract: where the table has no room, nothing is put. Assumes nothing.
+-- `put_word` meets its contract: where there is no room, nothing is put. Assumes nothing.
 use mathlib.Core.Path.{sym}
 use borrow.Author.Needs.{needs}
 use lib.Seq.{set-out}

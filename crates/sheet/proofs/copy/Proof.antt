@@ -1,13 +1,13 @@
--- `lay` meets its contract: the words so far are laid. Assumes nothing.
+-- `copy` meets its contract: the words so far are laid. Assumes nothing.
 use mathlib.Core.Path.{_≡_, refl}
 use Prim.Native.Nat.{_+_, _-_, _≤_}
 use native.Mathlib.Omega.{arith}
 use borrow.Author.Needs.{needs}
 use lib.ListN.{length, take}
 use Rattle.cursor.specs.Lent.{laid}
-use Rattle.sheet.proofs.Laying.{laid-next, laid-kept, laid-all, laid-none}
-use Rattle.sheet.proofs.lay.Statement.{statement}
-use Rattle.sheet.proofs.lay.Tie as tie
+use Rattle.sheet.proofs.Laying.{laid-next, laid-kept, laid-whole}
+use Rattle.sheet.proofs.copy.Statement.{statement}
+use Rattle.sheet.proofs.copy.Tie as tie
 
 abbrev Inv-loop : tie.InvT-loop
 Inv-loop words sheet₀ i₀ sheet i = (i ≤ length words) × (length words ≤ length sheet₀) × (sheet ≡ laid (take i words) sheet₀) × (length sheet ≡ length sheet₀)
@@ -15,33 +15,29 @@ Inv-loop words sheet₀ i₀ sheet i = (i ≤ length words) × (length words ≤
 abbrev μ-loop : tie.MeasureT-loop
 μ-loop words sheet₀ i₀ sheet i = length words - i
 
-returns : tie.Need-returns Inv-loop μ-loop
-returns c = let a = c .before .args in laid-none (a .words .now) (a .sheet .now) (c .if1 .taken)
-
 loop-holds : tie.Need-loop-holds Inv-loop μ-loop
-loop-holds c = (omega arith, omega arith, refl, refl)
+loop-holds c = (omega arith, c .pre, refl, refl)
 
 loop-again : tie.Need-loop-again Inv-loop μ-loop
 loop-again c =
-    let a = c .before .before .before .before .args in
+    let a = c .before .before .before .args in
     let l = c .before .before .loop in
     let h = c .before .loop-test .taken in
     let n = laid-next (a .words .now) (a .sheet .now) (l .inv .1) (l .i) (l .sheet) h (l .inv .2) in
     (omega arith, l .inv .1, n, laid-kept (a .words .now) (a .sheet .now) (l .inv .1) (l .i + 1) _ (omega arith) n)
 
-returns-2 : tie.Need-returns-2 Inv-loop μ-loop
-returns-2 c =
-    let a = c .before .before .before .args in
+returns : tie.Need-returns Inv-loop μ-loop
+returns c =
+    let a = c .before .before .args in
     let l = c .before .loop in
-    laid-all (a .words .now) (a .sheet .now) (l .inv .1) (l .i) (l .sheet) (omega (arith, l .inv .0, c .loop-test .left)) (l .inv .2)
+    laid-whole (a .words .now) (a .sheet .now) (l .inv .1) (l .i) (l .sheet) (omega (arith, l .inv .0, c .loop-test .left)) (l .inv .2)
 
-pub lay-spec : {M : Type 1} → statement M
-lay-spec =
+pub copy-spec : {M : Type 1} → statement M
+copy-spec =
     tie.close
     (tie.spec
     Inv-loop
     μ-loop
-    returns
     loop-holds
     (λ c. search needs)
     (λ c. search needs)
@@ -51,4 +47,4 @@ lay-spec =
     (λ c. omega arith)
     loop-again
     (λ c. omega arith)
-    returns-2)
+    returns)

@@ -1,0 +1,12 @@
+-- `put_mark` meets its contract: where there is no room, nothing is put. Assumes nothing.
+use mathlib.Core.Path.{sym}
+use borrow.Author.Needs.{needs}
+use lib.Seq.{set-out}
+use Rattle.sheet.proofs.put_mark.Statement.{statement}
+use Rattle.sheet.proofs.put_mark.Tie as tie
+
+returns-2 : tie.Need-returns-2
+returns-2 c = sym (set-out _ _ _ (c .if1 .left))
+
+pub put-mark-spec : {M : Type 1} → statement M
+put-mark-spec = tie.close (tie.spec (λ c. search needs) (λ c. search needs) (λ c. search needs) returns-2)
