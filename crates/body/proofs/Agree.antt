@@ -6,7 +6,7 @@ use native.Mathlib.Omega.{arith}
 use native.Mathlib.Decide.{decLt}
 use lib.ListN.{length, getD, drop, drop-of-length-le, List·getD-eq-default}
 use lib.Seq.{drop-cons}
-use Rattle.body.specs.Grammar.{Reading}
+use Rattle.body.specs.Grammar.{wide, Reading}
 use Rattle.body.specs.Reader.{State, begin, tag, inside, target, Out, accepted, refused, Step, move, stop, step, ended, outcome, wordsFrom}
 use Rattle.body.proofs.Moves.{Move, Says, goes, wrong, deep, says, moves, higher, not-zero}
 use Rattle.body.proofs.Runs.{Run, over, next, body-run, run-body}
@@ -75,7 +75,7 @@ run-read t o limit {s} {n} l (next {s′ = s′} {w = w} m v r) =
           ∙ ap (λ (x : ℕ). x ∷ drop (suc n) o) (sym v) ∙ sym b,
     )
 
-pub body-read : (limit : ℕ) (t o : List ℕ) → Reading limit t o → (outcome limit begin 0 t ≡ accepted) × (wordsFrom limit begin 0 t ≡ o)
+pub body-read : (limit : ℕ) (t o : List ℕ) → Reading wide limit t o → (outcome limit begin 0 t ≡ accepted) × (wordsFrom limit begin 0 t ≡ o)
 body-read limit t o r = run-read t o limit (r .each) (body-run t o limit (r .body) refl)
 
 -- the state in which a body is over
@@ -129,7 +129,7 @@ words-length limit (k ∷ ks) s n e = ap length (words-on limit s n k ks (step l
     longer x (wrong g) e f = absurd (not-accepted 13 n e)
     longer x (deep w s′ c g) e f = absurd (not-accepted 14 n e)
 
-pub read-body : (limit : ℕ) (t : List ℕ) → outcome limit begin 0 t ≡ accepted → Reading limit t (wordsFrom limit begin 0 t)
+pub read-body : (limit : ℕ) (t : List ℕ) → outcome limit begin 0 t ≡ accepted → Reading wide limit t (wordsFrom limit begin 0 t)
 read-body limit t e =
     let l = words-length limit t begin 0 e in
     record { each = l; body = run-body t (wordsFrom limit begin 0 t) limit (read-run t (wordsFrom limit begin 0 t) limit t begin 0 l (omega arith) refl e refl) }
@@ -139,10 +139,10 @@ run-higher : (t o : List ℕ) (l m : ℕ) {s : State} {n : ℕ} → l ≤ m → 
 run-higher t o l m h (over e) = over e
 run-higher t o l m h (next k v r) = next (higher m h k) v (run-higher t o l m h r)
 
-pub higher-reading : (l m : ℕ) (t o : List ℕ) → l ≤ m → Reading l t o → Reading m t o
+pub higher-reading : (l m : ℕ) (t o : List ℕ) → l ≤ m → Reading wide l t o → Reading wide m t o
 higher-reading l m t o h r = record { each = r .each; body = run-body t o m (run-higher t o l m h (body-run t o l (r .body) refl)) }
 
 -- "An accepted body has one reading only": any two owner tables of the same tokens are equal, whatever the limits
-pub one-table : (l m : ℕ) (t o p : List ℕ) → Reading l t o → Reading m t p → o ≡ p
+pub one-table : (l m : ℕ) (t o p : List ℕ) → Reading wide l t o → Reading wide m t p → o ≡ p
 one-table l m t o p r q =
     sym (body-read (l + m) t o (higher-reading l (l + m) t o (omega arith) r) .1) ∙ body-read (l + m) t p (higher-reading m (l + m) t p (omega arith) q) .1

@@ -7,13 +7,13 @@ use native.Mathlib.Omega.{arith}
 use borrow.Author.Tests.{le-leb, lt-leb}
 use lib.ListN.{length, take, drop}
 use lib.Seq.{sets, sets-eq, length-sets}
+use Rattle.cursor.specs.Answer.{gives, refuses}
 use Rattle.cursor.specs.Lent.{laid}
 use Rattle.cursor.specs.Refusals.{noRoom}
 use Rattle.cursor.specs.declared.Refusal.{Refusal}
 use Rattle.sheet.proofs.Laying.{front}
-use Rattle.body.specs.Verdict.{deepest}
-use Rattle.body.specs.Reader.{begin, Out, accepted, outcome, wordsFrom, walk, refusedBy, wholeOf, judgedOf, tableOf}
-use Rattle.cursor.specs.declared.Counted.the-variants as C
+use Rattle.body.specs.Verdict.{deepest, tableAnswer, tableLeft}
+use Rattle.body.specs.Reader.{begin, Out, accepted, outcome, wordsFrom, walk, refusedBy, wholeOf}
 use Rattle.body.specs.declared.reader.Read.{Read}
 use Rattle.body.specs.declared.reader.Read.the-variants as R
 use Rattle.body.proofs.Agree.{words-length}
@@ -42,11 +42,11 @@ module _ (t : List ℕ) where
 
     -- what is answered of a body, where the table has room
     pub room : outcome deepest begin 0 t ≡ accepted → length t ≤ length table
-        → (C.Count (length t) ≡ judgedOf accepted (length t) (length table)) × (left ≡ tableOf accepted words table)
+        → (gives (length t) ≡ tableAnswer (gives words) table) × (left ≡ tableLeft (gives words) table)
     room a h =
         let n = words-length deepest t begin 0 a in
         let b : 0 + length words ≤ length table = omega (arith, n) in (
-          rw (le-leb (length t) (length table) h),
+          ap gives (sym n) ∙ rw (le-leb (length words) (length table) (omega (arith, n))),
           whole-table ∙ sets-eq words table 0 b ∙ ap (λ (k : ℕ). words ++ drop k table) (zero-add (length words))
               ∙ rw (le-leb (length words) (length table) (omega (arith, n))),
         )
@@ -61,14 +61,14 @@ module _ (t : List ℕ) where
 
   -- what is answered of a body whose words were copied
   pub copied : (front′ left table : List ℕ) → outcome deepest begin 0 t ≡ accepted → length t ≤ length table → front′ ≡ words → left ≡ laid front′ table
-      → (C.Count (length t) ≡ judgedOf accepted (length t) (length table)) × (left ≡ tableOf accepted words table)
+      → (gives (length t) ≡ tableAnswer (gives words) table) × (left ≡ tableLeft (gives words) table)
   copied front′ left table a h q k =
       let n = words-length deepest t begin 0 a in
-      (rw (le-leb (length t) (length table) h), k ∙ ap (λ (w : List ℕ). laid w table) q ∙ rw (le-leb (length words) (length table) (omega (arith, n))))
+      (ap gives (sym n) ∙ rw (le-leb (length words) (length table) (omega (arith, n))), k ∙ ap (λ (w : List ℕ). laid w table) q ∙ rw (le-leb (length words) (length table) (omega (arith, n))))
 
   -- and where it has no room
   pub no-room : (table : List ℕ) → outcome deepest begin 0 t ≡ accepted → length table < length t
-      → (C.Refused (record { number = noRoom; place = length t }) ≡ judgedOf accepted (length t) (length table)) × (table ≡ tableOf accepted words table)
+      → (refuses noRoom (length t) ≡ tableAnswer (gives words) table) × (table ≡ tableLeft (gives words) table)
   no-room table a h =
       let n = words-length deepest t begin 0 a in
-      (rw (lt-leb (length t) (length table) h), rw (lt-leb (length words) (length table) (omega (arith, n))))
+      (ap (refuses noRoom) (sym n) ∙ rw (lt-leb (length words) (length table) (omega (arith, n))), rw (lt-leb (length words) (length table) (omega (arith, n))))

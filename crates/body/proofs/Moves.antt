@@ -10,7 +10,7 @@ use lib.Dec.{eqb, ltb}
 use lib.ListN.{length}
 use Rattle.cursor.specs.Answer.{pick}
 use Rattle.cursor.proofs.Choice.{either}
-use Rattle.body.specs.Grammar.{Item, a-value, a-substitution, a-char-ref, an-entity-ref}
+use Rattle.body.specs.Grammar.{OneOfFour, a-value, a-substitution, a-char-ref, an-entity-ref}
 use Rattle.body.specs.Reader.{State, begin, tag, inside, target, Out, accepted, refused, Step, move, stop, isItem, isLeaf, opening, step}
 
 -- in the state s token n may be of the kind k; its word is then w, and s′ the state after it
@@ -20,12 +20,12 @@ pub data Move (limit n k : ℕ) : State → ℕ → State → Type 0 where
   m-attribute : {a w : ℕ} {st : List ℕ} → k ≡ 7 → Move limit n k (tag a w st) w (tag (suc n) w st)
   m-empty : {a w : ℕ} {st : List ℕ} → k ≡ 4 → Move limit n k (tag a w st) w (inside st)
   m-start : {a w : ℕ} {st : List ℕ} → k ≡ 3 → Move limit n k (tag a w st) w (inside (w ∷ st))
-  m-tag-item : {a w : ℕ} {st : List ℕ} → Item k → (a ≡ 0 → ⊥) → Move limit n k (tag a w st) a (tag a w st)
+  m-tag-item : {a w : ℕ} {st : List ℕ} → OneOfFour k → (a ≡ 0 → ⊥) → Move limit n k (tag a w st) a (tag a w st)
   m-close : {w : ℕ} {st : List ℕ} → k ≡ 5 → Move limit n k (inside (w ∷ st)) w (inside st)
   m-child : {w : ℕ} {st : List ℕ} → k ≡ 2 → suc (length st) < limit → Move limit n k (inside (w ∷ st)) w (tag 0 (suc n) (w ∷ st))
   m-target : {w : ℕ} {st : List ℕ} → k ≡ 9 → Move limit n k (inside (w ∷ st)) w (target w st)
   m-cdata : {w : ℕ} {st : List ℕ} → k ≡ 11 → Move limit n k (inside (w ∷ st)) w (inside (w ∷ st))
-  m-item : {w : ℕ} {st : List ℕ} → Item k → Move limit n k (inside (w ∷ st)) w (inside (w ∷ st))
+  m-item : {w : ℕ} {st : List ℕ} → OneOfFour k → Move limit n k (inside (w ∷ st)) w (inside (w ∷ st))
   m-data : {w : ℕ} {st : List ℕ} → k ≡ 10 → Move limit n k (target w st) w (inside (w ∷ st))
 
 -- a move is the step's answer
@@ -33,14 +33,14 @@ module _ (limit n k : ℕ) (s : State) (w : ℕ) (s′ : State) where
   on-kind : (c : ℕ) → step limit s n c ≡ move w s′ → k ≡ c → step limit s n k ≡ move w s′
   on-kind c h e = subst (λ (x : ℕ). step limit s n x ≡ move w s′) (sym e) h
 
-item-in-tag : (limit n k a w : ℕ) (st : List ℕ) → Item k → (a ≡ 0 → ⊥) → step limit (tag a w st) n k ≡ move a (tag a w st)
+item-in-tag : (limit n k a w : ℕ) (st : List ℕ) → OneOfFour k → (a ≡ 0 → ⊥) → step limit (tag a w st) n k ≡ move a (tag a w st)
 unfolding step
 item-in-tag limit n k a w st a-value h = rw (ne-eqb a 0 h)
 item-in-tag limit n k a w st a-substitution h = rw (ne-eqb a 0 h)
 item-in-tag limit n k a w st a-char-ref h = rw (ne-eqb a 0 h)
 item-in-tag limit n k a w st an-entity-ref h = rw (ne-eqb a 0 h)
 
-item-inside : (limit n k w : ℕ) (st : List ℕ) → Item k → step limit (inside (w ∷ st)) n k ≡ move w (inside (w ∷ st))
+item-inside : (limit n k w : ℕ) (st : List ℕ) → OneOfFour k → step limit (inside (w ∷ st)) n k ≡ move w (inside (w ∷ st))
 unfolding step
 item-inside limit n k w st a-value = refl
 item-inside limit n k w st a-substitution = refl
@@ -83,7 +83,7 @@ higher m h (m-item i) = m-item i
 higher m h (m-data e) = m-data e
 
 -- no token is of the kind 0
-item-not-zero : {k : ℕ} → Item k → k ≡ 0 → ⊥
+item-not-zero : {k : ℕ} → OneOfFour k → k ≡ 0 → ⊥
 item-not-zero a-value e = omega arith
 item-not-zero a-substitution e = omega arith
 item-not-zero a-char-ref e = omega arith
@@ -147,10 +147,10 @@ or-false-right : (a b : Bool) → (a || b) ≡ false → b ≡ false
 or-false-right true b e = let z : _≡_ {A = ℕ} 0 1 = cc in absurd (omega arith)
 or-false-right false b e = e
 
-to-item : (k c : ℕ) → Item c → eqb k c ≡ true → Item k
-to-item k c i e = subst Item (sym (eqb-true k c e)) i
+to-item : (k c : ℕ) → OneOfFour c → eqb k c ≡ true → OneOfFour k
+to-item k c i e = subst OneOfFour (sym (eqb-true k c e)) i
 
-pub is-item : (k : ℕ) → isItem k ≡ true → Item k
+pub is-item : (k : ℕ) → isItem k ≡ true → OneOfFour k
 is-item k e =
     ⊎-elim (to-item k 6 a-value)
     (λ f. ⊎-elim (to-item k 13 a-substitution)
@@ -158,17 +158,17 @@ is-item k e =
     (or-true (eqb k 13) (eqb k 12 || eqb k 8) f))
     (or-true (eqb k 6) (eqb k 13 || (eqb k 12 || eqb k 8)) e)
 
-pub no-item : (k : ℕ) → isItem k ≡ false → Item k → ⊥
+pub no-item : (k : ℕ) → isItem k ≡ false → OneOfFour k → ⊥
 no-item k e a-value = let z : _≡_ {A = ℕ} 0 1 = cc in omega arith
 no-item k e a-substitution = let z : _≡_ {A = ℕ} 0 1 = cc in omega arith
 no-item k e a-char-ref = let z : _≡_ {A = ℕ} 0 1 = cc in omega arith
 no-item k e an-entity-ref = let z : _≡_ {A = ℕ} 0 1 = cc in omega arith
 
 -- a choice by whether a kind is an item's
-item-tested : (P : Step → Type 0) (k : ℕ) (x y : Step) → (Item k → P x) → ((Item k → ⊥) → P y) → P (pick (isItem k) x y)
+item-tested : (P : Step → Type 0) (k : ℕ) (x y : Step) → (OneOfFour k → P x) → ((OneOfFour k → ⊥) → P y) → P (pick (isItem k) x y)
 item-tested P k x y f g = either P (isItem k) x y (λ e. f (is-item k e)) (λ e. g (no-item k e))
 
-leaf-tested : (P : Step → Type 0) (k : ℕ) (x y : Step) → (k ≡ 11 → P x) → (Item k → P x) → ((k ≡ 11 → ⊥) → (Item k → ⊥) → P y) → P (pick (isLeaf k) x y)
+leaf-tested : (P : Step → Type 0) (k : ℕ) (x y : Step) → (k ≡ 11 → P x) → (OneOfFour k → P x) → ((k ≡ 11 → ⊥) → (OneOfFour k → ⊥) → P y) → P (pick (isLeaf k) x y)
 leaf-tested P k x y f h g =
     either P (isLeaf k) x y
     (λ e. ⊎-elim (λ c. f (eqb-true k 11 c)) (λ i. h (is-item k i)) (or-true (eqb k 11) (isItem k) e))
@@ -180,13 +180,13 @@ module _ (l n k : ℕ) where
   at-begin w s′ a b (m-instance e) = b e
   at-begin w s′ a b (m-root e h) = a e
 
-  in-tag : (w : ℕ) (s′ : State) (a v : ℕ) (st : List ℕ) → (k ≡ 7 → ⊥) → (k ≡ 4 → ⊥) → (k ≡ 3 → ⊥) → (Item k → (a ≡ 0 → ⊥) → ⊥) → Move l n k (tag a v st) w s′ → ⊥
+  in-tag : (w : ℕ) (s′ : State) (a v : ℕ) (st : List ℕ) → (k ≡ 7 → ⊥) → (k ≡ 4 → ⊥) → (k ≡ 3 → ⊥) → (OneOfFour k → (a ≡ 0 → ⊥) → ⊥) → Move l n k (tag a v st) w s′ → ⊥
   in-tag w s′ a v st x y z i (m-attribute e) = x e
   in-tag w s′ a v st x y z i (m-empty e) = y e
   in-tag w s′ a v st x y z i (m-start e) = z e
   in-tag w s′ a v st x y z i (m-tag-item e h) = i e h
 
-  in-content : (w : ℕ) (s′ : State) (v : ℕ) (st : List ℕ) → (k ≡ 5 → ⊥) → (k ≡ 2 → ⊥) → (k ≡ 9 → ⊥) → (k ≡ 11 → ⊥) → (Item k → ⊥) → Move l n k (inside (v ∷ st)) w s′ → ⊥
+  in-content : (w : ℕ) (s′ : State) (v : ℕ) (st : List ℕ) → (k ≡ 5 → ⊥) → (k ≡ 2 → ⊥) → (k ≡ 9 → ⊥) → (k ≡ 11 → ⊥) → (OneOfFour k → ⊥) → Move l n k (inside (v ∷ st)) w s′ → ⊥
   in-content w s′ v st a b c d i (m-close e) = a e
   in-content w s′ v st a b c d i (m-child e h) = b e
   in-content w s′ v st a b c d i (m-target e) = c e

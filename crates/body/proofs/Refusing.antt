@@ -6,7 +6,7 @@ use Prim.Native.Nat.{ℕ, zero, suc, _+_, _≤_, _<_}
 use native.Mathlib.Omega.{arith}
 use lib.ListN.{length, getD, take, drop}
 use lib.Seq.{take-all, take-suc}
-use Rattle.body.specs.Grammar.{Reading}
+use Rattle.body.specs.Grammar.{wide}
 use Rattle.body.specs.Verdict.{Begins, NoBody, TooDeep, Unfinished, Refuses, no-body, too-deep, unfinished-body}
 use Rattle.body.specs.Reader.{State, begin, tag, inside, target, Out, accepted, refused, Step, move, stop, step, ended, outcome, wordsFrom}
 use Rattle.body.proofs.Moves.{Move, m-instance, m-empty, m-close, m-data, Says, goes, wrong, deep, says, moves, higher, depth, shallow}
@@ -114,7 +114,7 @@ stuck l place k s others g e = by-says (step l s place k) (says l place k s) (sy
 -- what the grammar says of tokens that the reader refuses
 module _ (t : List ℕ) (number place : ℕ) (r : Told 64 begin 0 t number place) where
   -- a body within 64 levels begins with the tokens before
-  begins : Begins 64 (take (r .read) t)
+  begins : Begins wide 64 (take (r .read) t)
   begins =
       record {
         others = closing (r .state);
@@ -130,7 +130,7 @@ module _ (t : List ℕ) (number place : ℕ) (r : Told 64 begin 0 t number place
       ∙ ap (outcome l begin 0) (append-assoc (take (r .read) t) (getD t (r .read) 0 ∷ []) others) ∙ r .same l g (getD t (r .read) 0 ∷ others)
 
   -- what a body of these tokens would be to the reader
-  accepts : (l m : ℕ) → l ≤ m → (ks : List ℕ) → Begins l ks → (others : List ℕ) × (outcome m begin 0 (ks ++ others) ≡ accepted)
+  accepts : (l m : ℕ) → l ≤ m → (ks : List ℕ) → Begins wide l ks → (others : List ℕ) × (outcome m begin 0 (ks ++ others) ≡ accepted)
   accepts l m h ks b = (b .others, body-read m (ks ++ b .others) (b .words) (higher-reading l m (ks ++ b .others) (b .words) h (b .reading)) .0)
 
   refuses-why : {k : ℕ} → Why 64 t (r .read) (r .state) place k → Refuses t k (r .read)
@@ -166,7 +166,7 @@ module _ (t : List ℕ) (number place : ℕ) (r : Told 64 begin 0 t number place
             let a = body-read (l + 64) t words (higher-reading l (l + 64) t words (omega arith) y) in
             let b = ap (outcome (l + 64) begin 0) (sym (append-nil t) ∙ ap (λ (x : List ℕ). x ++ []) (sym all)) in
             not-accepted 15 place (sym e ∙ sym (outcome-nil (l + 64) place (r .state)) ∙ sym (r .same (l + 64) (omega arith) []) ∙ sym b ∙ a .0);
-        more = subst (Begins 64) all begins;
+        more = subst (Begins wide 64) all begins;
       }))
 
 pub refuses-right : (t : List ℕ) (number place : ℕ) → outcome 64 begin 0 t ≡ refused number place → Refuses t number place

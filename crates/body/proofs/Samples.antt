@@ -2,7 +2,7 @@
 use mathlib.Core.Path.{_≡_, refl, subst}
 use mathlib.Core.List.{List, [], _∷_}
 use Prim.Native.Nat.{ℕ, zero, suc}
-use Rattle.body.specs.Grammar.{Reading}
+use Rattle.body.specs.Grammar.{wide, Reading}
 use Rattle.body.specs.Verdict.{Refuses}
 use Rattle.body.specs.Reader.{begin, opening, step, ended, outcome, wordsFrom}
 use Rattle.body.proofs.Agree.{read-body}
@@ -10,11 +10,11 @@ use Rattle.body.proofs.Refusing.{refuses-right}
 
 -- an element with an attribute and its value, a text, an instruction and a child: 2 open, 7 attribute, 6 value, 3 close start, 6 value,
 -- 9 and 10 PI target and data, 2 and 4 the child, 5 close element
-pub an-element : Reading 64 (2 ∷ 7 ∷ 6 ∷ 3 ∷ 6 ∷ 9 ∷ 10 ∷ 2 ∷ 4 ∷ 5 ∷ []) (0 ∷ 1 ∷ 2 ∷ 1 ∷ 1 ∷ 1 ∷ 1 ∷ 1 ∷ 8 ∷ 1 ∷ [])
+pub an-element : Reading wide 64 (2 ∷ 7 ∷ 6 ∷ 3 ∷ 6 ∷ 9 ∷ 10 ∷ 2 ∷ 4 ∷ 5 ∷ []) (0 ∷ 1 ∷ 2 ∷ 1 ∷ 1 ∷ 1 ∷ 1 ∷ 1 ∷ 8 ∷ 1 ∷ [])
 unfolding step opening ended outcome wordsFrom
 an-element = read-body 64 (2 ∷ 7 ∷ 6 ∷ 3 ∷ 6 ∷ 9 ∷ 10 ∷ 2 ∷ 4 ∷ 5 ∷ []) refl
 
-pub an-instance : Reading 64 (1 ∷ []) (0 ∷ [])
+pub an-instance : Reading wide 64 (1 ∷ []) (0 ∷ [])
 unfolding step ended outcome wordsFrom
 an-instance = read-body 64 (1 ∷ []) refl
 

@@ -5,17 +5,14 @@ use mathlib.Core.Bool.{Bool, true, false, _||_}
 use mathlib.Core.List.{List, [], _∷_}
 use mathlib.Core.Logic.{_⊎_}
 use Prim.Native.Nat.{ℕ, suc, _-_, _≤_, _<_}
-use lib.Dec.{eqb, leb, ltb}
+use lib.Dec.{eqb, ltb}
 use lib.ListN.{length, take, drop, set}
 use lib.Seq.{sets}
-use Rattle.cursor.specs.Answer.{pick}
-use Rattle.cursor.specs.Lent.{laid}
-use Rattle.cursor.specs.Refusals.{noBody, tooDeep, unfinished, noRoom}
+use Rattle.cursor.specs.Answer.{Result, gives, refuses, pick}
+use Rattle.cursor.specs.Refusals.{noBody, tooDeep, unfinished}
 use Rattle.cursor.specs.declared.Refusal.{Refusal}
 use Rattle.tokens.specs.Token.{instanceKind, openKind, closeStartKind, closeEmptyKind, closeElementKind, valueKind, attributeKind, entityRefKind, piTargetKind, piDataKind, cdataKind, charRefKind, substitutionKind}
 use Rattle.body.specs.Verdict.{deepest}
-use Rattle.cursor.specs.declared.Counted.{Counted}
-use Rattle.cursor.specs.declared.Counted.the-variants as C
 use Rattle.body.specs.declared.reader.Read.{Read}
 use Rattle.body.specs.declared.reader.Read.the-variants as R
 use Rattle.body.specs.declared.reader.Tagged.{Tagged}
@@ -150,19 +147,18 @@ abbrev pub wholeOf : Read → List ℕ → Out × List ℕ
 wholeOf (R.Next j) table = (accepted, table)
 wholeOf (R.Refused r) table = (refusedBy r, table)
 
--- what is answered for the tokens and a lent table, and what the table holds then
-abbrev pub judgedOf : Out → ℕ → ℕ → Counted
-judgedOf accepted count room = pick (leb count room) (C.Count count) (C.Refused (record { number = noRoom; place = count }))
-judgedOf (refused k p) count room = C.Refused (record { number = k; place = p })
+-- the verdict that the reader comes to
+abbrev pub verdictOf : Out → List ℕ → Result (List ℕ)
+verdictOf accepted words = gives words
+verdictOf (refused k p) words = refuses k p
 
-abbrev pub tableOf : Out → List ℕ → List ℕ → List ℕ
-tableOf accepted words lent = pick (leb (length words) (length lent)) (laid words lent) lent
-tableOf (refused k p) words lent = lent
+abbrev pub verdictOn : List ℕ → Result (List ℕ)
+verdictOn kinds = verdictOf (outcome deepest begin 0 kinds) (wordsFrom deepest begin 0 kinds)
 
 -- at most m bytes are left from the start on, or at most m places where a token may begin
 abbrev pub Few : List ℕ → ℕ → ℕ → ℕ → Type 0
 Few s start end m = (length s - start ≤ m) ⊎ (end - start ≤ m)
 
 -- where there is room for the words of a body they stand at the front
-abbrev pub Noted : List ℕ → List ℕ → Type 0
-Noted kinds words = length kinds ≤ length words → take (length kinds) words ≡ wordsFrom deepest begin 0 kinds
+abbrev pub InFront : List ℕ → List ℕ → Type 0
+InFront kinds words = length kinds ≤ length words → take (length kinds) words ≡ wordsFrom deepest begin 0 kinds

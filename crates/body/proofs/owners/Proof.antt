@@ -4,6 +4,7 @@ use native.Mathlib.Omega.{arith}
 use borrow.Author.Needs.{needs}
 use Rattle.tokens.specs.Walk.{Walked}
 use Rattle.sheet.proofs.Laying.{walk-within, too-long, beyond}
+use Rattle.cursor.specs.Answers.{countAnswer}
 use Rattle.body.specs.Verdict.{Answered}
 use Rattle.body.proofs.Answers.{walk-bad}
 use Rattle.body.proofs.owners.Statement.{statement}
@@ -23,7 +24,7 @@ returns-3 : tie.Need-returns-3
 returns-3 c =
     let a = c .before .before .before .before .before .before .before .before .args in
     let r = c .before .before .chosen in
-    subst (λ (w : Walked). Answered (a .table .now) (r .last .1 .1 .1 .1 .0) w (r .result))
+    subst (λ (w : Walked). Answered (a .table .now) (r .last .1 .1 .1 .1 .0) w (countAnswer (r .result)))
     (sym (walk-within (a .s .now) (a .start) (a .length) (a .flags) (omega arith) (omega arith))) (r .ensures)
 
 pub owners-spec : {M : Type 1} → statement M
