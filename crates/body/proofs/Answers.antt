@@ -1,11 +1,15 @@
 -- From what the reader says of a walk's kinds to the public call's answer. Assumes nothing.
 use mathlib.Core.Path.{_≡_, refl, sym, ap, subst, _∙_}
+use mathlib.Core.Bool.{Bool, true, false}
 use mathlib.Core.List.{List}
 use mathlib.Core.Logic.{⊎-elim}
 use Prim.Native.Nat.{ℕ, _≤_}
 use native.Mathlib.Omega.{arith}
+use borrow.Author.Tests.{leb-true}
+use lib.Dec.{leb}
 use lib.ListN.{length, take, length-take}
-use Rattle.cursor.specs.Answer.{Result, refuses}
+use Rattle.cursor.specs.Answer.{Result, gives, refuses, pick}
+use Rattle.cursor.specs.Refusals.{noRoom}
 use Rattle.cursor.specs.declared.Counted.{Counted}
 use Rattle.cursor.specs.declared.Counted.the-variants as C
 use Rattle.cursor.specs.declared.Refusal.{Refusal}
@@ -65,5 +69,25 @@ judged-right : (w : Walked) → Judged w (verdictAt w)
 judged-right (ok l) = read l (verdictOn (kindsOf l)) (verdict-right (kindsOf l))
 judged-right (bad k p) = unread k p
 
-pub answer-holds : (w : Walked) (lent : List ℕ) → Answered lent (tableLeft (verdictAt w) lent) w (tableAnswer (verdictAt w) lent)
+abbrev pub answerOf : Walked → List ℕ → Result ℕ
+answerOf w lent = tableAnswer (verdictAt w) lent
+
+abbrev pub leftOf : Walked → List ℕ → List ℕ
+leftOf w lent = tableLeft (verdictAt w) lent
+
+pub answer-holds : (w : Walked) (lent : List ℕ) → Answered lent (leftOf w lent) w (answerOf w lent)
 answer-holds w lent = record { verdict = verdictAt w; judged = judged-right w; answer = refl; table = refl }
+
+-- a table has a word for each token that is counted
+table-fits : (v : Result (List ℕ)) (lent : List ℕ) (n : ℕ) → tableAnswer v lent ≡ gives n → n ≤ length lent
+table-fits (gives words) lent n e = by-room (leb (length words) (length lent)) refl e
+  where
+    by-room : (b : Bool) → leb (length words) (length lent) ≡ b → pick b (gives (length words)) (refuses noRoom (length words)) ≡ gives n → n ≤ length lent
+    by-room true h e =
+        let y : length words ≡ n = cc in
+        omega (arith, leb-true (length words) (length lent) h)
+    by-room false h e = let y : _≡_ {A = ℕ} 0 1 = cc in absurd (omega arith)
+table-fits (refuses k p) lent n e = let y : _≡_ {A = ℕ} 0 1 = cc in absurd (omega arith)
+
+pub counted-fits : (lent left : List ℕ) (w : Walked) (o : Result ℕ) (n : ℕ) → Answered lent left w o → o ≡ gives n → n ≤ length lent
+counted-fits lent left w o n x e = table-fits (x .verdict) lent n (sym (x .answer) ∙ e)
