@@ -6,7 +6,7 @@ use Prim.Native.Nat.{ℕ, suc, _+_, _≤_, _<_}
 use native.Mathlib.Omega.{arith}
 use native.Mathlib.Numerals.{add-one}
 use native.Mathlib.Decide.{decLe}
-use borrow.Author.Tests.{lt-ltb, le-ltb, ltb-true, ltb-false, eq-eqb, ne-eqb}
+use borrow.Author.Tests.{lt-ltb, le-ltb, ltb-true, ltb-false, eqb-true, eq-eqb, ne-eqb}
 use lib.Dec.{eqb, ltb}
 use lib.ListN.{length, getD, set, drop, drop-of-length-le}
 use lib.Seq.{sets, drop-cons}
@@ -15,7 +15,7 @@ use Rattle.cursor.specs.Refusals.{noBody, tooDeep, unfinished}
 use Rattle.cursor.proofs.Choice.{either}
 use Rattle.tokens.specs.Token.{instanceKind, openKind, closeStartKind, closeEmptyKind, closeElementKind, attributeKind, piTargetKind, piDataKind, valueKind, entityRefKind, charRefKind, substitutionKind}
 use Rattle.body.specs.Verdict.{deepest}
-use Rattle.body.specs.Reader.{State, begin, tag, inside, target, Out, accepted, refused, Step, move, stop, isItem, isLeaf, opening, step, ended, outcome, wordsFrom, walk, further, tagFurther, resume, tagResume, onStep, opened, atEnd, wholeOf}
+use Rattle.body.specs.Reader.{State, begin, tag, inside, target, Out, accepted, refused, Step, move, stop, isOpen, isItem, isLeaf, opening, step, ended, outcome, wordsFrom, walk, further, tagFurther, resume, tagResume, onStep, opened, atEnd, wholeOf}
 use Rattle.body.specs.declared.reader.Read.{Read}
 use Rattle.body.specs.declared.reader.Read.the-variants as R
 use Rattle.body.specs.declared.reader.Tagged.{Tagged}
@@ -142,12 +142,12 @@ module _ (t : List ℕ) (n : ℕ) (table : List ℕ) where
     unfolding step
     inside-close w st left e l = walk-on (inside (w ∷ st)) (inside st) w left h (ap (step deepest (inside (w ∷ st)) n) e) l
 
-    inside-open : (w : ℕ) (st : List ℕ) → getD t n 0 ≡ openKind → opened t n w (w ∷ st) table ≡ walk t (inside (w ∷ st)) n table
+    inside-open : (w : ℕ) (st : List ℕ) → isOpen (getD t n 0) ≡ true → opened t n w (w ∷ st) table ≡ walk t (inside (w ∷ st)) n table
     unfolding step
-    inside-open w st e = sym (walk-step (inside (w ∷ st)) h ∙ ap (λ (k : ℕ). onStep t n table (step deepest (inside (w ∷ st)) n k)) e)
+    inside-open w st e = sym (walk-step (inside (w ∷ st)) h ∙ ap (λ (k : ℕ). onStep t n table (step deepest (inside (w ∷ st)) n k)) (eqb-true (getD t n 0) openKind e))
 
     -- an element's answer goes on from its open token
-    pub inside-child : (w : ℕ) (st left : List ℕ) (r r′ : Read) → getD t n 0 ≡ openKind → resume t (inside (w ∷ st)) r left ≡ opened t n w (w ∷ st) table → r ≡ r′
+    pub inside-child : (w : ℕ) (st left : List ℕ) (r r′ : Read) → isOpen (getD t n 0) ≡ true → resume t (inside (w ∷ st)) r left ≡ opened t n w (w ∷ st) table → r ≡ r′
         → resume t (inside (w ∷ st)) r′ left ≡ walk t (inside (w ∷ st)) n table
     inside-child w st left r r′ k g e = subst (λ (r : Read). resume t (inside (w ∷ st)) r left ≡ walk t (inside (w ∷ st)) n table) e (g ∙ inside-open w st k)
 
@@ -164,13 +164,13 @@ module _ (t : List ℕ) (n : ℕ) (table : List ℕ) where
     unfolding step
     inside-target w st left e l = walk-on (inside (w ∷ st)) (target w st) w left h (ap (step deepest (inside (w ∷ st)) n) e) l
 
-    pub inside-other : (w : ℕ) (st : List ℕ) → (getD t n 0 ≡ closeElementKind → ⊥) → (getD t n 0 ≡ openKind → ⊥) → (getD t n 0 ≡ piTargetKind → ⊥)
+    pub inside-other : (w : ℕ) (st : List ℕ) → (getD t n 0 ≡ closeElementKind → ⊥) → isOpen (getD t n 0) ≡ false → (getD t n 0 ≡ piTargetKind → ⊥)
         → isLeaf (getD t n 0) ≡ false → (refused noBody n, table) ≡ walk t (inside (w ∷ st)) n table
     unfolding step
     inside-other w st x y z e =
         let k = getD t n 0 in
         walk-stop (inside (w ∷ st)) (refused noBody n) h
-        (rw (ne-eqb k closeElementKind x, ne-eqb k openKind y, ne-eqb k piTargetKind z, e))
+        (rw (ne-eqb k closeElementKind x, y, ne-eqb k piTargetKind z, e))
 
     -- after a PI target
     pub target-data : (w : ℕ) (st left : List ℕ) → getD t n 0 ≡ piDataKind → left ≡ set table n w
@@ -183,17 +183,17 @@ module _ (t : List ℕ) (n : ℕ) (table : List ℕ) where
     target-other w st x = walk-stop (target w st) (refused noBody n) h (rw (ne-eqb (getD t n 0) piDataKind x))
 
     -- the first token
-    pub begin-open : getD t n 0 ≡ openKind → opened t n 0 [] table ≡ walk t begin n table
+    pub begin-open : isOpen (getD t n 0) ≡ true → opened t n 0 [] table ≡ walk t begin n table
     unfolding step
-    begin-open e = sym (walk-step begin h ∙ ap (λ (k : ℕ). onStep t n table (step deepest begin n k)) e)
+    begin-open e = sym (walk-step begin h ∙ ap (λ (k : ℕ). onStep t n table (step deepest begin n k)) (eqb-true (getD t n 0) openKind e))
 
     pub begin-instance : (left : List ℕ) → getD t n 0 ≡ instanceKind → left ≡ set table n 0 → walk t (inside []) (n + 1) left ≡ walk t begin n table
     unfolding step
     begin-instance left e l = walk-on begin (inside []) 0 left h (ap (step deepest begin n) e) l
 
-    pub begin-other : (getD t n 0 ≡ openKind → ⊥) → (getD t n 0 ≡ instanceKind → ⊥) → (refused noBody n, table) ≡ walk t begin n table
+    pub begin-other : isOpen (getD t n 0) ≡ false → (getD t n 0 ≡ instanceKind → ⊥) → (refused noBody n, table) ≡ walk t begin n table
     unfolding step
-    begin-other x y = walk-stop begin (refused noBody n) h (rw (ne-eqb (getD t n 0) openKind x, ne-eqb (getD t n 0) instanceKind y))
+    begin-other x y = walk-stop begin (refused noBody n) h (rw (x, ne-eqb (getD t n 0) instanceKind y))
 
   -- an open token, below the elements of the stack: one level more, or too deep
   opened-on : (w : ℕ) (st left : List ℕ) → length st < deepest → left ≡ set table n w

@@ -12,6 +12,7 @@ use Rattle.cursor.specs.Answer.{Result, gives, refuses, pick}
 use Rattle.cursor.specs.Refusals.{noBody, tooDeep, unfinished}
 use Rattle.cursor.specs.declared.Refusal.{Refusal}
 use Rattle.tokens.specs.Token.{instanceKind, openKind, closeStartKind, closeEmptyKind, closeElementKind, valueKind, attributeKind, entityRefKind, piTargetKind, piDataKind, cdataKind, charRefKind, substitutionKind}
+use Rattle.body.specs.Grammar.{kindOf}
 use Rattle.body.specs.Verdict.{deepest}
 use Rattle.body.specs.declared.reader.Read.{Read}
 use Rattle.body.specs.declared.reader.Read.the-variants as R
@@ -36,6 +37,10 @@ pub data Step : Type 0 where
   move : ℕ → State → Step
   stop : Out → Step
 
+-- what a mark is of
+abbrev pub isOpen : ℕ → Bool
+isOpen k = eqb (kindOf k) openKind
+
 abbrev pub isItem : ℕ → Bool
 isItem k = eqb k valueKind || (eqb k substitutionKind || (eqb k charRefKind || eqb k entityRefKind))
 
@@ -49,7 +54,7 @@ opening limit w st n = pick (ltb (length st) limit) (move w (tag 0 (suc n) st)) 
 -- token n, of the kind k
 unfoldable pub step : ℕ → State → ℕ → ℕ → Step
 step limit begin n k =
-    pick (eqb k openKind) (opening limit 0 [] n)
+    pick (isOpen k) (opening limit 0 [] n)
     (pick (eqb k instanceKind) (move 0 (inside []))
     (stop (refused noBody n)))
 step limit (tag a w st) n k =
@@ -62,7 +67,7 @@ step limit (tag a w st) n k =
 step limit (inside []) n k = stop (refused noBody n)
 step limit (inside (w ∷ st)) n k =
     pick (eqb k closeElementKind) (move w (inside st))
-    (pick (eqb k openKind) (opening limit w (w ∷ st) n)
+    (pick (isOpen k) (opening limit w (w ∷ st) n)
     (pick (eqb k piTargetKind) (move w (target w st))
     (pick (isLeaf k) (move w (inside (w ∷ st)))
     (stop (refused noBody n)))))

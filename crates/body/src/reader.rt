@@ -7,8 +7,8 @@ ghost use mathlib.Core.Path.{_≡_};
 ghost use mathlib.Core.Bool.{false};
 ghost use Prim.Native.Nat.{_≤_, _<_};
 ghost use lib.ListN.{length, getD, set};
-ghost use Rattle.tokens.specs.Token.{openKind, closeElementKind, attributeKind, piTargetKind};
-ghost use Rattle.body.specs.Reader.{isItem, isLeaf, further, tagFurther, ElementRead, ContentRead, LeafRead, TagRead, TagEndRead, atEnd, wholeOf, walk, begin};
+ghost use Rattle.tokens.specs.Token.{closeElementKind, attributeKind, piTargetKind};
+ghost use Rattle.body.specs.Reader.{isOpen, isItem, isLeaf, further, tagFurther, ElementRead, ContentRead, LeafRead, TagRead, TagEndRead, atEnd, wholeOf, walk, begin};
 
 pub enum Read {
     Next(usize),
@@ -33,7 +33,7 @@ pub(crate) fn whole(kinds: &[u8], table: &mut [u32]) -> Read
             place: 0,
         });
     }
-    if kinds[0] == Token::OPEN {
+    if is_open(kinds[0]) {
         return at_end(kinds, element(kinds, 0, 0, 0, table));
     }
     if kinds[0] == Token::INSTANCE {
@@ -97,7 +97,7 @@ fn content(kinds: &[u8], at: usize, above: usize, me: u32, table: &mut [u32]) ->
             put(table, i, me);
             return Read::Next(i + 1);
         }
-        if kinds[i] == Token::OPEN {
+        if is_open(kinds[i]) {
             match element(kinds, i, above + 1, me, table) {
                 Read::Next(next) => i = next,
                 Read::Refused(r) => return Read::Refused(r),
@@ -117,7 +117,7 @@ fn content(kinds: &[u8], at: usize, above: usize, me: u32, table: &mut [u32]) ->
 
 // Reads what content holds beside elements: an item, CDATA, or an instruction.
 fn leaf(kinds: &[u8], at: usize, me: u32, table: &mut [u32]) -> Read
-    requires { ⌜ (at < length (now kinds)) × (getD (now kinds) at 0 ≡ closeElementKind → ⊥) × (getD (now kinds) at 0 ≡ openKind → ⊥) ⌝ }
+    requires { ⌜ (at < length (now kinds)) × (getD (now kinds) at 0 ≡ closeElementKind → ⊥) × (isOpen (getD (now kinds) at 0) ≡ false) ⌝ }
     ensures { λ r. ⌜ further (now (kinds .entry)) at r ⌝ }
     ensures { λ r. ⌜ LeafRead (now (kinds .entry)) at me (now (table .entry)) r (now (table .exit)) ⌝ }
 {
@@ -209,6 +209,13 @@ fn tag_end(kinds: &[u8], at: usize, me: u32, table: &mut [u32]) -> Tagged
         number: Refusal::NO_BODY,
         place: at,
     })
+}
+
+// An open token, by its mark.
+fn is_open(mark: u8) -> bool
+    ensures { λ r. ⌜ r ≡ isOpen mark ⌝ }
+{
+    mark == Token::OPEN
 }
 
 // A value, a substitution, a char ref or an entity ref.

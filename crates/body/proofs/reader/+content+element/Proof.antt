@@ -1,5 +1,5 @@
 -- The cycle of `content` and `element` meets its contracts: each call is of fewer tokens, or of as many and of `element`. Assumes nothing.
-use mathlib.Core.Path.{_≡_, refl, _∙_}
+use mathlib.Core.Path.{_≡_, refl, sym, _∙_}
 use mathlib.Core.List.{List, _∷_}
 use Prim.Native.Nat.{ℕ, _+_, _-_, _*_, _≤_, _<_}
 use native.Mathlib.Omega.{arith}
@@ -15,6 +15,7 @@ use Rattle.body.proofs.reader.+content+element.Lts-content as content-l
 use Rattle.body.proofs.reader.element.Reads as element
 use Rattle.body.proofs.reader.element.Kinds as element-kinds
 use Rattle.body.proofs.reader.+content+element.Lts-element as element-lts
+use Rattle.body.proofs.reader.is_open.Reads as is-open-reads
 use Rattle.body.proofs.reader.leaf.Reads as leaf-reads
 use Rattle.body.proofs.reader.open_tag.Reads as open-tag-reads
 use Rattle.body.proofs.reader.put.Reads as put-reads
@@ -42,7 +43,7 @@ element-below t = and 2 element-kinds.ps (falls 2 element-kinds.ps _<_ μ-elemen
 
 -- the callees' contracts
 abbrev content-claims : ℕ → content-lts.Claims
-content-claims t = (put-reads.Asked, put-reads.Learnt, element-below t, element.Post, leaf-reads.Asked, leaf-reads.Learnt)
+content-claims t = (put-reads.Asked, put-reads.Learnt, is-open-reads.Asked, is-open-reads.Learnt, element-below t, element.Post, leaf-reads.Asked, leaf-reads.Learnt)
 
 abbrev element-claims : ℕ → element-lts.Claims
 element-claims t = (put-reads.Asked, put-reads.Learnt, open-tag-reads.Asked, open-tag-reads.Learnt, content-below t, content.Post)
@@ -75,28 +76,28 @@ content-loop-less t c =
 
 content-loop-again : (t : ℕ) → content-lts.Need-loop-again (content-claims t) (content-at t) content.Post content-Inv-loop content-μ-loop
 content-loop-again t c =
-    let l = c .before .before .before .before .before .before .before .before .before .before .before .before .loop in
-    let h = c .before .before .before .before .before .before .before .before .before .before .before .loop-test .taken in
+    let l = c .before .before .before .before .before .before .before .before .before .before .before .before .before .loop in
+    let h = c .before .before .before .before .before .before .before .before .before .before .before .before .loop-test .taken in
     let got = c .before .before .before .before .before .element in
     let n = c .before .next .given .1 in
     let f = walking.further-is _ _ (got .result) _ (got .ensures .0) n in (
       omega (arith, f .0),
       f .1,
       omega arith,
-      λ st e. walking.inside-child _ _ _ h _ st _ _ _ (c .before .before .before .before .before .before .before .if2 .taken) (got .ensures .1 (_ ∷ st) (omega (arith, e))) n ∙ l .inv .3 st e,
+      λ st e. walking.inside-child _ _ _ h _ st _ _ _ (sym (c .before .before .before .before .before .before .before .before .is-open .ensures) ∙ c .before .before .before .before .before .before .before .if2 .taken) (got .ensures .1 (_ ∷ st) (omega (arith, e))) n ∙ l .inv .3 st e,
     )
 
 content-returns-2 : (t : ℕ) → content-lts.Need-returns-2 (content-claims t) (content-at t) content.Post content-Inv-loop content-μ-loop
 content-returns-2 t c =
-    let l = c .before .before .before .before .before .before .before .before .before .before .before .before .loop in
-    let h = c .before .before .before .before .before .before .before .before .before .before .before .loop-test .taken in
+    let l = c .before .before .before .before .before .before .before .before .before .before .before .before .before .loop in
+    let h = c .before .before .before .before .before .before .before .before .before .before .before .before .loop-test .taken in
     let got = c .before .before .before .before .before .element in (
       tt {0},
-      λ st e. walking.inside-child _ _ _ h _ st _ _ _ (c .before .before .before .before .before .before .before .if2 .taken) (got .ensures .1 (_ ∷ st) (omega (arith, e))) (c .before .r .given .1) ∙ l .inv .3 st e,
+      λ st e. walking.inside-child _ _ _ h _ st _ _ _ (sym (c .before .before .before .before .before .before .before .before .is-open .ensures) ∙ c .before .before .before .before .before .before .before .if2 .taken) (got .ensures .1 (_ ∷ st) (omega (arith, e))) (c .before .r .given .1) ∙ l .inv .3 st e,
     )
 
 content-leaf-requires : (t : ℕ) → content-lts.Need-leaf-requires (content-claims t) (content-at t) content.Post content-Inv-loop content-μ-loop
-content-leaf-requires t c κs = (c .before .before .before .before .before .loop-test .taken, c .before .before .before .if1 .left, c .before .if2 .left)
+content-leaf-requires t c κs = (c .before .before .before .before .before .before .loop-test .taken, c .before .before .before .before .if1 .left, sym (c .before .before .is-open .ensures) ∙ c .before .if2 .left)
 
 content-loop-less-2 : (t : ℕ) → content-lts.Need-loop-less-2 (content-claims t) (content-at t) content.Post content-Inv-loop content-μ-loop
 content-loop-less-2 t c =
@@ -106,7 +107,7 @@ content-loop-less-2 t c =
 
 content-loop-again-2 : (t : ℕ) → content-lts.Need-loop-again-2 (content-claims t) (content-at t) content.Post content-Inv-loop content-μ-loop
 content-loop-again-2 t c =
-    let l = c .before .before .before .before .before .before .before .before .before .before .before .before .loop in
+    let l = c .before .before .before .before .before .before .before .before .before .before .before .before .before .loop in
     let got = c .before .before .before .before .before .leaf in
     let n = c .before .next2 .given .1 in
     let f = walking.further-is _ _ (got .result) _ (got .ensures .0) n in
@@ -114,7 +115,7 @@ content-loop-again-2 t c =
 
 content-returns-3 : (t : ℕ) → content-lts.Need-returns-3 (content-claims t) (content-at t) content.Post content-Inv-loop content-μ-loop
 content-returns-3 t c =
-    let l = c .before .before .before .before .before .before .before .before .before .before .before .before .loop in
+    let l = c .before .before .before .before .before .before .before .before .before .before .before .before .before .loop in
     let got = c .before .before .before .before .before .leaf in
     (tt {0}, λ st e. walking.resumed _ _ _ _ _ _ (got .ensures .1 st) (c .before .r2 .given .1) ∙ l .inv .3 st e)
 
@@ -180,6 +181,7 @@ pub +content+element-spec : {M : Type 1} → statement M
     (λ c. omega arith)
     (content-returns t)
     (λ c. search needs)
+    (λ c κs. search needs)
     (λ c. omega arith)
     (content-element-requires t)
     (λ c. search needs)

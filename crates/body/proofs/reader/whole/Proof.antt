@@ -1,5 +1,5 @@
 -- `whole` meets its contract. Assumes nothing.
-use mathlib.Core.Path.{refl, ap, _∙_}
+use mathlib.Core.Path.{refl, sym, ap, _∙_}
 use mathlib.Core.List.{[]}
 use native.Mathlib.Omega.{arith}
 use borrow.Author.Needs.{needs}
@@ -14,22 +14,22 @@ returns : tie.Need-returns
 returns c = walking.begin-ended _ 0 _ (omega (arith, c .if1 .taken))
 
 element-requires : tie.Need-element-requires
-element-requires c κs = (omega (arith, c .before .before .before .if1 .left), c .before .before .before .before .before .before .pre)
+element-requires c κs = (omega (arith, c .before .before .before .before .if1 .left), c .before .before .before .before .before .before .before .pre)
 
 returns-2 : tie.Need-returns-2
 returns-2 c =
     let got = c .before .before .before .element in
     ap (λ (r : Read). wholeOf r (got .last .1 .1 .1 .1 .0)) (c .at-end .ensures) ∙ walking.at-end _ _ (got .result) ∙ got .ensures .1 [] refl
-    ∙ walking.begin-open _ 0 _ (omega (arith, c .before .before .before .before .before .before .before .if1 .left)) (c .before .before .before .before .before .if2 .taken)
+    ∙ walking.begin-open _ 0 _ (omega (arith, c .before .before .before .before .before .before .before .before .if1 .left)) (sym (c .before .before .before .before .before .before .is-open .ensures) ∙ c .before .before .before .before .before .if2 .taken)
 
 returns-3 : tie.Need-returns-3
 returns-3 c =
     let p = c .before .before .before .put in
-    ap (λ (r : Read). wholeOf r (p .last .0)) (c .at-end2 .ensures) ∙ walking.at-end (c .before .before .before .before .before .before .before .before .before .before .before .before .args .kinds .now) (p .last .0) (R.Next 1)
-    ∙ walking.begin-instance _ 0 _ (omega (arith, c .before .before .before .before .before .before .before .before .before .if1 .left)) _ (c .before .before .before .before .before .if3 .taken) (p .ensures)
+    ap (λ (r : Read). wholeOf r (p .last .0)) (c .at-end2 .ensures) ∙ walking.at-end (c .before .before .before .before .before .before .before .before .before .before .before .before .before .args .kinds .now) (p .last .0) (R.Next 1)
+    ∙ walking.begin-instance _ 0 _ (omega (arith, c .before .before .before .before .before .before .before .before .before .before .if1 .left)) _ (c .before .before .before .before .before .if3 .taken) (p .ensures)
 
 returns-4 : tie.Need-returns-4
-returns-4 c = walking.begin-other _ 0 _ (omega (arith, c .before .before .before .before .if1 .left)) (c .before .before .if2 .left) (c .if3 .left)
+returns-4 c = walking.begin-other _ 0 _ (omega (arith, c .before .before .before .before .before .if1 .left)) (sym (c .before .before .before .is-open .ensures) ∙ c .before .before .if2 .left) (c .if3 .left)
 
 pub whole-spec : {M : Type 1} → statement M
 whole-spec =
@@ -37,6 +37,7 @@ whole-spec =
     (tie.spec
     returns
     (λ c. search needs)
+    (λ c κs. search needs)
     element-requires
     (λ c κs. search needs)
     (λ c. search needs)
