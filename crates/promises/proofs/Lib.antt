@@ -9,6 +9,7 @@ pub mod OfChunk
 pub mod OfTokens
 pub mod OfSheet
 pub mod OfBody
+pub mod Bodies
 pub mod OfDoortumble
 pub mod OfPrint
 pub mod OfAnswers

@@ -1,11 +1,15 @@
 -- Any two answers that a contract allows are equal: what the theorems of the other files say, and the laws that they share.
 -- Assumes nothing.
-use mathlib.Core.Path.{_≡_, sym, ap, _∙_}
+use mathlib.Core.Path.{_≡_, refl, sym, ap, _∙_}
 use Prim.Native.Nat.{ℕ}
 use mathlib.Core.List.{List}
 use contract.Lifetimes.{Lfts}
 use borrow.Fn.Kinds.{PK, RK, Out, Dens, resT, endedOf}
 use denote.Triple.Clauses.{AtExit}
+use Rattle.cursor.specs.Answer.{Result, gives, refuses}
+use Rattle.cursor.specs.Answers.{countAnswer}
+use Rattle.cursor.specs.declared.Counted.{Counted}
+use Rattle.cursor.specs.declared.Counted.the-variants as C
 
 -- a contract allows one answer: n is the number of lifetimes in the signature
 abbrev pub Single : (n : ℕ) (ps : List (PK n)) (r : RK n) → Out n ps r → Type 0
@@ -15,3 +19,15 @@ Single n ps r post =
 -- a contract that says what the answer is in document 01's terms fixes the answer, where those terms can be read back
 pub read-back : {A B : Type 0} (f : A → B) (g : B → A) → ((x : A) → g (f x) ≡ x) → (x y : A) (b : B) → f x ≡ b → f y ≡ b → x ≡ y
 read-back f g h x y b p q = sym (h x) ∙ ap g (p ∙ sym q) ∙ h y
+
+-- a count or a refusal, back from document 01's terms
+abbrev count-back : Result ℕ → Counted
+count-back (gives n) = C.Count n
+count-back (refuses k p) = C.Refused (record { number = k; place = p })
+
+count-same : (x : Counted) → count-back (countAnswer x) ≡ x
+count-same (C.Count n) = refl
+count-same (C.Refused r) = refl
+
+pub one-count : (x y : Counted) → countAnswer x ≡ countAnswer y → x ≡ y
+one-count x y e = read-back countAnswer count-back count-same x y (countAnswer y) e refl

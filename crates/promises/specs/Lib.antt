@@ -1,3 +1,4 @@
--- Document 01's samples that are to be proved.
+-- Document 01's samples that are to be proved, and what the promises over the finished contracts say.
 pub mod Samples
 pub mod Packed
+pub mod Bodies
