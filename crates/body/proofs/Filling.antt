@@ -66,9 +66,10 @@ module _ (t : List ℕ) where
       let n = words-length deepest t begin 0 a in
       (ap gives (sym n) ∙ rw (le-leb (length words) (length table) (omega (arith, n))), k ∙ ap (λ (w : List ℕ). laid w table) q ∙ rw (le-leb (length words) (length table) (omega (arith, n))))
 
-  -- and where it has no room
-  pub no-room : (table : List ℕ) → outcome deepest begin 0 t ≡ accepted → length table < length t
-      → (refuses noRoom (length t) ≡ tableAnswer (gives words) table) × (table ≡ tableLeft (gives words) table)
-  no-room table a h =
-      let n = words-length deepest t begin 0 a in
-      (ap (refuses noRoom) (sym n) ∙ rw (lt-leb (length words) (length table) (omega (arith, n))), rw (lt-leb (length words) (length table) (omega (arith, n))))
+-- what is answered of a body where the table has no room: nothing is written
+pub no-room : (t table : List ℕ) → outcome deepest begin 0 t ≡ accepted → length table < length t
+    → (refuses noRoom (length t) ≡ tableAnswer (gives (words t)) table) × (table ≡ tableLeft (gives (words t)) table)
+no-room t table a h =
+    let n = words-length deepest t begin 0 a in
+    let b = lt-leb (length (words t)) (length table) (omega (arith, n)) in
+    (ap (refuses noRoom) (sym n) ∙ rw b, rw b)

@@ -15,14 +15,14 @@ module _ (t o : List ℕ) (limit : ℕ) where
     over : {n : ℕ} → n ≡ length t → Run (inside []) n
     next : {s s′ : State} {n w : ℕ} → Move limit n (getD t n 0) s w s′ → getD o n 0 ≡ w → Run s′ (suc n) → Run s n
 
-  item-here : {i k w : ℕ} → OneOfFour k → Stands wide t o i k w → OneOfFour (getD t i 0)
+  item-here : {i k w : ℕ} → OneOfFour k → Stands t o i k w → OneOfFour (getD t i 0)
   item-here i k = subst OneOfFour (sym (k .kind)) i
 
-  items-run : {a i j : ℕ} → Items wide t o a i j → (w : ℕ) (st : List ℕ) → (a ≡ 0 → ⊥) → Run (tag a w st) j → Run (tag a w st) i
+  items-run : {a i j : ℕ} → Items t o a i j → (w : ℕ) (st : List ℕ) → (a ≡ 0 → ⊥) → Run (tag a w st) j → Run (tag a w st) i
   items-run g.Items.no-more w st h r = r
   items-run (g.Items.item i k c) w st h r = next (m-tag-item (item-here i k) h) (k .word) (items-run c w st h r)
 
-  attributes-run : {w i j : ℕ} → Attributes wide t o w i j → (st : List ℕ) → ((a : ℕ) → Run (tag a w st) j) → (a : ℕ) → Run (tag a w st) i
+  attributes-run : {w i j : ℕ} → Attributes t o w i j → (st : List ℕ) → ((a : ℕ) → Run (tag a w st) j) → (a : ℕ) → Run (tag a w st) i
   attributes-run g.Attributes.no-more st f a = f a
   attributes-run (attribute {i = i} k items c) st f a =
       next (m-attribute (k .kind)) (k .word) (items-run items _ st (λ e. omega arith) (attributes-run c st f (suc i)))
@@ -32,7 +32,7 @@ module _ (t o : List ℕ) (limit : ℕ) where
   Opens s i w st = getD t i 0 ≡ 2 → length st < limit → Move limit i (getD t i 0) s w (tag 0 (suc i) st)
 
   mutual
-    element-run : {level w i j : ℕ} → Element wide t o limit level w i j → (s : State) (st : List ℕ) → suc (length st) ≡ level → Opens s i w st
+    element-run : {level w i j : ℕ} → Element t o wide limit level w i j → (s : State) (st : List ℕ) → suc (length st) ≡ level → Opens s i w st
         → Run (inside st) j → Run s i
     element-run (empty l k close) s st e f r =
         next (f (k .opening .kind) (omega arith)) (k .opening .word)
@@ -42,7 +42,7 @@ module _ (t o : List ℕ) (limit : ℕ) where
         (attributes-run (k .attributes) st
         (λ a. next (m-start (start .kind)) (start .word) (content-run c st e (next (m-close (close .kind)) (close .word) r))) 0)
 
-    content-run : {level w i j : ℕ} → Content wide t o limit level w i j → (st : List ℕ) → suc (length st) ≡ level → Run (inside (w ∷ st)) j
+    content-run : {level w i j : ℕ} → Content t o wide limit level w i j → (st : List ℕ) → suc (length st) ≡ level → Run (inside (w ∷ st)) j
         → Run (inside (w ∷ st)) i
     content-run g.Content.no-more st e r = r
     content-run (g.Content.item i k c) st e r = next (m-item (item-here i k)) (k .word) (content-run c st e r)
@@ -52,53 +52,53 @@ module _ (t o : List ℕ) (limit : ℕ) where
     content-run (child {w = w} x c) st e r =
         element-run x (inside (w ∷ st)) (w ∷ st) (ap suc e) (λ k h. m-child k h) (content-run c st e r)
 
-  pub body-run : {i j : ℕ} → Body wide t o limit i j → j ≡ length t → Run begin i
+  pub body-run : {i j : ℕ} → Body t o wide limit i j → j ≡ length t → Run begin i
   body-run (an-instance k) e = next (m-instance (k .kind)) (k .word) (over e)
   body-run (an-element x) e = element-run x begin [] refl (λ k h. m-root k h) (over e)
 
   -- what is left of a body in a state: the rest of each element that is open, and then the end
   data Rest : State → ℕ → Type 0 where
-    at-begin : {i j : ℕ} → Body wide t o limit i j → j ≡ length t → Rest begin i
+    at-begin : {i j : ℕ} → Body t o wide limit i j → j ≡ length t → Rest begin i
     at-end : {n : ℕ} → n ≡ length t → Rest (inside []) n
-    in-content : {w i j : ℕ} {st : List ℕ} → Content wide t o limit (suc (length st)) w i j → Stands wide t o j 5 w → Rest (inside st) (suc j)
+    in-content : {w i j : ℕ} {st : List ℕ} → Content t o wide limit (suc (length st)) w i j → Stands t o j 5 w → Rest (inside st) (suc j)
         → Rest (inside (w ∷ st)) i
-    in-target : {w i : ℕ} {st : List ℕ} → Stands wide t o i 10 w → Rest (inside (w ∷ st)) (suc i) → Rest (target w st) i
-    in-empty : {a w i m j : ℕ} {st : List ℕ} → Items wide t o a i m → (a ≡ 0 → i ≡ m) → Attributes wide t o w m j → Stands wide t o j 4 w
+    in-target : {w i : ℕ} {st : List ℕ} → Stands t o i 10 w → Rest (inside (w ∷ st)) (suc i) → Rest (target w st) i
+    in-empty : {a w i m j : ℕ} {st : List ℕ} → Items t o a i m → (a ≡ 0 → i ≡ m) → Attributes t o w m j → Stands t o j 4 w
         → Rest (inside st) (suc j) → Rest (tag a w st) i
-    in-full : {a w i m j : ℕ} {st : List ℕ} → Items wide t o a i m → (a ≡ 0 → i ≡ m) → Attributes wide t o w m j → Stands wide t o j 3 w
+    in-full : {a w i m j : ℕ} {st : List ℕ} → Items t o a i m → (a ≡ 0 → i ≡ m) → Attributes t o w m j → Stands t o j 3 w
         → Rest (inside (w ∷ st)) (suc j) → Rest (tag a w st) i
 
-  whole-tag : {w i m j : ℕ} → Stands wide t o i 2 w → (_≡_ {A = ℕ} 0 0 → suc i ≡ m) → Attributes wide t o (suc i) m j → Tag wide t o w i j
-  whole-tag {i = i} {j = j} k z c = record { opening = k; attributes = subst (λ (x : ℕ). Attributes wide t o (suc i) x j) (sym (z refl)) c; ruled = tt {0} }
+  whole-tag : {w i m j : ℕ} → Stands t o i 2 w → (_≡_ {A = ℕ} 0 0 → suc i ≡ m) → Attributes t o (suc i) m j → Tag t o wide w i j
+  whole-tag {i = i} {j = j} k z c = record { opening = k; attributes = subst (λ (x : ℕ). Attributes t o (suc i) x j) (sym (z refl)) c; ruled = tt {0} }
 
-  root-rest : {n : ℕ} → Stands wide t o n 2 0 → 0 < limit → Rest (tag 0 (suc n) []) (suc n) → Rest begin n
+  root-rest : {n : ℕ} → Stands t o n 2 0 → 0 < limit → Rest (tag 0 (suc n) []) (suc n) → Rest begin n
   root-rest k h (in-empty items z c close (at-end e)) = at-begin (an-element (empty {level = 1} (omega arith) (whole-tag k z c) close)) e
   root-rest k h (in-full items z c start (in-content x close (at-end e))) = at-begin (an-element (full {level = 1} (omega arith) (whole-tag k z c) start x close)) e
 
-  instance-rest : {n : ℕ} → Stands wide t o n 1 0 → Rest (inside []) (suc n) → Rest begin n
+  instance-rest : {n : ℕ} → Stands t o n 1 0 → Rest (inside []) (suc n) → Rest begin n
   instance-rest k (at-end e) = at-begin (an-instance k) e
 
-  attribute-rest : {a w n : ℕ} {st : List ℕ} → Stands wide t o n 7 w → Rest (tag (suc n) w st) (suc n) → Rest (tag a w st) n
+  attribute-rest : {a w n : ℕ} {st : List ℕ} → Stands t o n 7 w → Rest (tag (suc n) w st) (suc n) → Rest (tag a w st) n
   attribute-rest k (in-empty items z c close r) = in-empty g.Items.no-more (λ e. refl) (attribute k items c) close r
   attribute-rest k (in-full items z c start r) = in-full g.Items.no-more (λ e. refl) (attribute k items c) start r
 
-  tag-item-rest : {a w n k : ℕ} {st : List ℕ} → OneOfFour k → (a ≡ 0 → ⊥) → Stands wide t o n k a → Rest (tag a w st) (suc n) → Rest (tag a w st) n
+  tag-item-rest : {a w n k : ℕ} {st : List ℕ} → OneOfFour k → (a ≡ 0 → ⊥) → Stands t o n k a → Rest (tag a w st) (suc n) → Rest (tag a w st) n
   tag-item-rest i h k (in-empty items z c close r) = in-empty (g.Items.item i k items) (λ e. absurd (h e)) c close r
   tag-item-rest i h k (in-full items z c start r) = in-full (g.Items.item i k items) (λ e. absurd (h e)) c start r
 
-  child-rest : {w n : ℕ} {st : List ℕ} → Stands wide t o n 2 w → suc (length st) < limit → Rest (tag 0 (suc n) (w ∷ st)) (suc n) → Rest (inside (w ∷ st)) n
+  child-rest : {w n : ℕ} {st : List ℕ} → Stands t o n 2 w → suc (length st) < limit → Rest (tag 0 (suc n) (w ∷ st)) (suc n) → Rest (inside (w ∷ st)) n
   child-rest {st = st} k h (in-empty items z c close (in-content y end r)) =
       in-content (child (empty {level = suc (suc (length st))} (omega arith) (whole-tag k z c) close) y) end r
   child-rest {st = st} k h (in-full items z c start (in-content x close (in-content y end r))) =
       in-content (child (full {level = suc (suc (length st))} (omega arith) (whole-tag k z c) start x close) y) end r
 
-  target-rest : {w n : ℕ} {st : List ℕ} → Stands wide t o n 9 w → Rest (target w st) (suc n) → Rest (inside (w ∷ st)) n
+  target-rest : {w n : ℕ} {st : List ℕ} → Stands t o n 9 w → Rest (target w st) (suc n) → Rest (inside (w ∷ st)) n
   target-rest k (in-target d (in-content c close r)) = in-content (instruction k d c) close r
 
-  cdata-rest : {w n : ℕ} {st : List ℕ} → Stands wide t o n 11 w → Rest (inside (w ∷ st)) (suc n) → Rest (inside (w ∷ st)) n
+  cdata-rest : {w n : ℕ} {st : List ℕ} → Stands t o n 11 w → Rest (inside (w ∷ st)) (suc n) → Rest (inside (w ∷ st)) n
   cdata-rest k (in-content c close r) = in-content (cdata k c) close r
 
-  item-rest : {w n k : ℕ} {st : List ℕ} → OneOfFour k → Stands wide t o n k w → Rest (inside (w ∷ st)) (suc n) → Rest (inside (w ∷ st)) n
+  item-rest : {w n k : ℕ} {st : List ℕ} → OneOfFour k → Stands t o n k w → Rest (inside (w ∷ st)) (suc n) → Rest (inside (w ∷ st)) n
   item-rest i k (in-content c close r) = in-content (g.Content.item i k c) close r
 
   -- a token, and what is left after it
@@ -120,8 +120,8 @@ module _ (t o : List ℕ) (limit : ℕ) where
   rest (over e) = at-end e
   rest (next m v r) = on-move m v (rest r)
 
-  begun : {i : ℕ} → Rest begin i → Body wide t o limit i (length t)
-  begun {i} (at-begin x e) = subst (λ (j : ℕ). Body wide t o limit i j) e x
+  begun : {i : ℕ} → Rest begin i → Body t o wide limit i (length t)
+  begun {i} (at-begin x e) = subst (λ (j : ℕ). Body t o wide limit i j) e x
 
-  pub run-body : {i : ℕ} → Run begin i → Body wide t o limit i (length t)
+  pub run-body : {i : ℕ} → Run begin i → Body t o wide limit i (length t)
   run-body r = begun (rest r)

@@ -30,7 +30,7 @@ pub data OneOfFour : ℕ → Type 0 where
   a-char-ref : OneOfFour charRefKind
   an-entity-ref : OneOfFour entityRefKind
 
-module _ (rule : Rule) (marks words : List ℕ) where
+module _ (marks words : List ℕ) where
   -- token i is of the kind k, and its word is w
   pub record Stands (i k w : ℕ) : Type 0 where
     pub kind : kindOf (getD marks i 0) ≡ k
@@ -47,20 +47,21 @@ module _ (rule : Rule) (marks words : List ℕ) where
     no-more : {i : ℕ} → Attributes w i i
     attribute : {i m j : ℕ} → Stands i attributeKind w → Items (suc i) (suc i) m → Attributes w m j → Attributes w i j
 
-  -- "an open token, any attributes": from i to j, and the open token has the word w. There are attributes where j is past `suc i`
-  pub record Tag (w i j : ℕ) : Type 0 where
+  -- "an open token, any attributes": from i to j, and the open token has the word w. There are attributes where j is past `suc i`; what the
+  -- grammar asks of that is its rule
+  pub record Tag (rule : Rule) (w i j : ℕ) : Type 0 where
     pub opening : Stands i openKind w
     pub attributes : Attributes (suc i) (suc i) j
     pub ruled : rule (getD marks i 0) (ltb (suc i) j)
 
   -- "Elements and their content are defined through each other". No element's level is past the limit.
-  module _ (limit : ℕ) where
+  module _ (rule : Rule) (limit : ℕ) where
     mutual
       -- "An element is an open token, any attributes, then either close empty, or close start, content, close element": from i to j, at a
       -- level, and its open token has the word w. "its close tokens" "belong to its open token"
       pub data Element : ℕ → ℕ → ℕ → ℕ → Type 0 where
-        empty : {level w i a : ℕ} → level ≤ limit → Tag w i a → Stands a closeEmptyKind (suc i) → Element level w i (suc a)
-        full : {level w i a c : ℕ} → level ≤ limit → Tag w i a → Stands a closeStartKind (suc i) → Content level (suc i) (suc a) c
+        empty : {level w i a : ℕ} → level ≤ limit → Tag rule w i a → Stands a closeEmptyKind (suc i) → Element level w i (suc a)
+        full : {level w i a c : ℕ} → level ≤ limit → Tag rule w i a → Stands a closeStartKind (suc i) → Content level (suc i) (suc a) c
             → Stands c closeElementKind (suc i) → Element level w i (suc c)
 
       -- "Content is any run of those four, CDATA, elements, and PI target directly followed by PI data": from i to j, in an element at a
@@ -80,4 +81,4 @@ module _ (rule : Rule) (marks words : List ℕ) where
 -- A reading: the tokens are a body nested at most `limit` elements deep, and the words are its owner table.
 pub record Reading (rule : Rule) (limit : ℕ) (marks words : List ℕ) : Type 0 where
   pub each : length words ≡ length marks
-  pub body : Body rule marks words limit 0 (length marks)
+  pub body : Body marks words rule limit 0 (length marks)

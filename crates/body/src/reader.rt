@@ -87,7 +87,7 @@ fn element(kinds: &[u8], at: usize, above: usize, owner: u32, table: &mut [u32])
 
 // Reads content from `at` on, through the close element token of its element, whose word is `me`.
 fn content(kinds: &[u8], at: usize, above: usize, me: u32, table: &mut [u32]) -> Read
-    requires { ⌜ (at ≤ length (now kinds)) × (length (now kinds) ≤ 65536) × (above < 64) ⌝ }
+    requires { ⌜ (at ≤ length (now kinds)) × (length (now kinds) ≤ 65536) × (above ≤ 65536) ⌝ }
     ensures { λ r. ⌜ further (now (kinds .entry)) at r ⌝ }
     ensures { λ r. ⌜ ContentRead (now (kinds .entry)) at above me (now (table .entry)) r (now (table .exit)) ⌝ }
 {
