@@ -51,5 +51,6 @@ pub type AnsiCodec = &'static Encoding;
 include!(concat!(env!("OUT_DIR"), "/printed.rs"));
 
 pub mod cases;
+pub mod document;
 pub mod oracle;
 pub mod timed;

@@ -5,7 +5,7 @@ mod common;
 use common::{case, hex};
 
 fn answers(batch: &[u8]) -> String {
-    let text = common::answers(batch, false);
+    let text = common::answers(batch);
     text.strip_suffix(".\n").expect("one case").to_owned()
 }
 
@@ -160,5 +160,5 @@ fn most_words() {
 #[test]
 fn bad_cases() {
     let short = case(b'C', 0, 0, 0, &[0; 3]);
-    assert_eq!(common::answers(&short, false), "bad case\n");
+    assert_eq!(common::answers(&short), "bad case\n");
 }

@@ -10,7 +10,7 @@ fn answers(kind: &str, seed: u64, count: usize) -> String {
     let cases = cases::make(kind, seed, count).expect("a kind");
     let bytes: Vec<u8> = cases.flat_map(|case| case.bytes()).collect();
     let mut out = Vec::new();
-    batch::run(&mut &bytes[..], &mut out, false).expect("memory takes all");
+    batch::run(&mut &bytes[..], &mut out).expect("memory takes all");
     String::from_utf8(out).expect("answers are text")
 }
 
@@ -78,24 +78,37 @@ fn made_body_cases() {
     assert!(words.contains(&16));
 }
 
-/// All lists of up to six tokens, and each is answered.
+/// So many lists compare/run asks for: all up to four tokens, and with one item for the four of five and six; those up to three also
+/// after a fragment header, and with C calls. The first of them reach each refusal.
 #[test]
 fn short_lists() {
-    let answers = answers("lists", 0, usize::MAX);
-    let count = |word: &str| {
-        answers
-            .lines()
-            .filter(|line| line.starts_with(word))
-            .count()
-    };
-    let lists = 13_usize.pow(4) + 13_usize.pow(3) + 13 * 13 + 13 + 1 + 100_000 + 1_000_000;
-    let fragments = 13_usize.pow(3) + 13 * 13 + 13 + 1;
-    assert_eq!(count("owners") + count("refused "), lists + fragments);
-    // So many compare/run asks for.
-    assert_eq!(count("."), 1_134_755);
-    let (tables, words) = reached_by_bodies(&answers);
+    let cases = cases::make("lists", 0, usize::MAX).expect("a kind");
+    assert_eq!(cases.count(), 1_134_755);
+    let (tables, words) = reached_by_bodies(&answers("lists", 0, 30_000));
     assert_eq!(tables, BTreeSet::from([13, 15]));
     assert_eq!(words, BTreeSet::from([13, 15, 16]));
+}
+
+/// A log of one chunk, the C example's sample: as many records as it prints.
+#[test]
+fn real_cases() {
+    let log = [
+        &[0; 4096],
+        &include_bytes!("../../examples/sample.chunk")[..],
+    ]
+    .concat();
+    let mut batch = Vec::new();
+    let put = |case: cases::Case| {
+        batch.extend(case.bytes());
+        Ok::<_, ()>(())
+    };
+    let counts = cases::real::each(&log, put).expect("memory takes all");
+    let counts = counts.to_string();
+    assert!(counts.starts_with("chunks 1 live 7 carved 1 "), "{counts}");
+    let mut out = Vec::new();
+    batch::run_held(&mut &batch[..], &mut out).expect("memory takes all");
+    let held = String::from_utf8(out).expect("answers are text");
+    assert!(held.contains("\nlive 512 ") && !held.contains("\napart\n"));
 }
 
 #[test]

@@ -7,7 +7,7 @@ use compare::oracle::leaves;
 use compare::oracle::refusal::Refusal;
 
 fn answers(batch: &[u8]) -> String {
-    common::answers(batch, false)
+    common::answers(batch)
 }
 
 /// The walk over a whole stream, offset names, no dependencies.

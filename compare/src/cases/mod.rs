@@ -5,6 +5,7 @@ mod chunk_cases;
 mod chunks;
 pub mod lists;
 pub mod random;
+pub mod real;
 mod short;
 mod stored;
 mod stored_bodies;
@@ -13,29 +14,8 @@ mod streams;
 mod token_cases;
 mod types;
 
+pub use crate::oracle::batch::Case;
 use random::Random;
-
-/// A case: its head's fields and its data.
-pub struct Case {
-    pub mode: u8,
-    pub flags: u8,
-    pub start: u32,
-    pub length: u32,
-    pub data: Vec<u8>,
-}
-
-impl Case {
-    /// The case as a batch holds it.
-    pub fn bytes(&self) -> Vec<u8> {
-        let size = u32::try_from(self.data.len()).expect("a case is small");
-        let mut bytes = vec![self.mode, self.flags];
-        for word in [self.start, self.length, size] {
-            bytes.extend(word.to_le_bytes());
-        }
-        bytes.extend(&self.data);
-        bytes
-    }
-}
 
 /// The first `count` cases of a kind, if there is such a kind. The stored ones, those of the type
 /// codes, short streams and short lists are the same for every seed; of `three` the seed is the first byte; the others

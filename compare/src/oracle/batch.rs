@@ -1,6 +1,9 @@
 //! A batch of cases and its answers, in all modes.
 
-use crate::oracle::differences::Met;
+use crate::document;
+use crate::oracle::calls::Call;
+use crate::oracle::chunk::State;
+use crate::oracle::differences::{self, Met};
 use crate::oracle::tokens::Asked;
 use crate::oracle::{calls, chunk, owners, tokens};
 use std::io::{self, Read, Write};
@@ -11,21 +14,47 @@ const STATE: usize = 40;
 const ROOM: usize = 4;
 
 /// A case: its head's fields and its data.
-struct Case {
-    mode: u8,
-    flags: u8,
-    start: u32,
-    length: u32,
-    data: Vec<u8>,
+pub struct Case {
+    pub mode: u8,
+    pub flags: u8,
+    pub start: u32,
+    pub length: u32,
+    pub data: Vec<u8>,
 }
 
 impl Case {
-    fn flag(&self, bit: u8) -> bool {
+    /// The case as a batch holds it.
+    pub fn bytes(&self) -> Vec<u8> {
+        let size = u32::try_from(self.data.len()).expect("a case is small");
+        let mut bytes = vec![self.mode, self.flags];
+        for word in [self.start, self.length, size] {
+            bytes.extend(word.to_le_bytes());
+        }
+        bytes.extend(&self.data);
+        bytes
+    }
+
+    pub(crate) fn flag(&self, bit: u8) -> bool {
         self.flags & bit != 0
     }
 
+    /// What a mode's data has before the chunk or the stream, in bytes; `None` where there is no such mode.
+    fn front(mode: u8) -> Option<usize> {
+        match mode {
+            b'H' | b'R' | b'W' | b'T' | b'S' | b'O' => Some(0),
+            b'P' => Some(STATE),
+            b'C' => Some(ROOM),
+            _ => None,
+        }
+    }
+
+    /// The chunk or the stream.
+    pub(crate) fn input(&self) -> &[u8] {
+        &self.data[Case::front(self.mode).unwrap_or(0)..]
+    }
+
     /// The walk that the modes T, O and C begin with.
-    fn walk(&self) -> Asked {
+    pub(crate) fn walk(&self) -> Asked {
         Asked {
             start: self.start as usize,
             length: self.length as usize,
@@ -34,9 +63,22 @@ impl Case {
         }
     }
 
-    /// Whether its answer says nothing of the tokens before the one that decides it.
-    fn unlisted(&self) -> bool {
-        matches!(self.mode, b'O' | b'C')
+    /// Mode P's state.
+    pub(crate) fn state(&self) -> State {
+        let mut words = [0; 5];
+        for (word, bytes) in words.iter_mut().zip(self.data.as_chunks::<8>().0) {
+            *word = u64::from_le_bytes(*bytes);
+        }
+        State::from_words(words)
+    }
+
+    /// Mode C's call.
+    pub(crate) fn call(&self) -> Call {
+        let room = self.data.first_chunk::<ROOM>().expect("a case has it");
+        Call {
+            owners: self.flag(4),
+            room: u32::from_le_bytes(*room),
+        }
     }
 }
 
@@ -47,10 +89,31 @@ enum Next {
     End,
 }
 
-/// Answers all cases of `input`. A case that is no case ends the run. If `mark`, a line `differs`
-/// and a number stands before the dot for each row of the list of differences that the case meets,
-/// with the word `unlisted` in the modes whose answer does not list the tokens.
-pub fn run(input: &mut impl Read, output: &mut impl Write, mark: bool) -> io::Result<()> {
+/// Answers all cases of `input`, as the printed Rust does. A case that is no case ends the run.
+pub fn run(input: &mut impl Read, output: &mut impl Write) -> io::Result<()> {
+    each(input, output, |case, out| {
+        answer(case, out);
+    })
+}
+
+/// Answers all cases as document 01 does, and holds the printed Rust to that: a line `meets` and a number stands before the dot
+/// for each row of the list of differences that a case meets; where the Rust's answer is another, `differs` and the number of
+/// each row that explains it. Where none does, `apart` stands there and the lines of the Rust.
+pub fn run_held(input: &mut impl Read, output: &mut impl Write) -> io::Result<()> {
+    each(input, output, |case, out| {
+        let mut rust = String::new();
+        let met = answer(case, &mut rust);
+        document::answer(case, out);
+        out.push_str(&differences::held(case.mode, out, &rust, &met));
+    })
+}
+
+fn each(
+    input: &mut impl Read,
+    output: &mut impl Write,
+    mut answer: impl FnMut(&Case, &mut String),
+) -> io::Result<()> {
+    let mut text = String::new();
     loop {
         match next_case(input)? {
             Next::End => break,
@@ -59,12 +122,8 @@ pub fn run(input: &mut impl Read, output: &mut impl Write, mark: bool) -> io::Re
                 break;
             }
             Next::Case(case) => {
-                let mut text = String::new();
-                let met = answer(&case, &mut text);
-                for difference in met.into_iter().filter(|_| mark) {
-                    let unlisted = if case.unlisted() { " unlisted" } else { "" };
-                    text.push_str(&format!("differs {}{unlisted}\n", difference as u8));
-                }
+                text.clear();
+                answer(&case, &mut text);
                 text.push_str(".\n");
                 output.write_all(text.as_bytes())?;
             }
@@ -84,11 +143,8 @@ fn next_case(input: &mut impl Read) -> io::Result<Next> {
     let word = |at: usize| u32::from_le_bytes([head[at], head[at + 1], head[at + 2], head[at + 3]]);
     let mode = head[0];
     let size = word(10) as usize;
-    let least = match mode {
-        b'H' | b'R' | b'W' | b'T' | b'S' | b'O' => 0,
-        b'P' => STATE,
-        b'C' => ROOM,
-        _ => return Ok(Next::Bad),
+    let Some(least) = Case::front(mode) else {
+        return Ok(Next::Bad);
     };
     if size > DATA_LIMIT || size < least {
         return Ok(Next::Bad);
@@ -113,38 +169,29 @@ fn read_up_to(input: &mut impl Read, size: usize) -> io::Result<Vec<u8>> {
     Ok(bytes)
 }
 
+/// The printed Rust's answer, and what the case meets.
 fn answer(case: &Case, out: &mut String) -> Met {
-    let data = &case.data[..];
+    let data = case.input();
     match case.mode {
         b'H' => chunk::answer_header(data, out),
         b'R' => chunk::answer_record(data, u64::from(case.start), case.flag(1), out),
         b'W' => chunk::answer_walk(data, case.flag(1), out),
-        b'P' => {
-            let (state, data) = data.split_at(STATE);
-            chunk::answer_step(data, chunk::State::from_words(state_words(state)), out)
-        }
+        b'P' => chunk::answer_step(data, case.state(), out),
         b'T' => tokens::answer_walk(data, case.walk(), out),
         b'S' => {
             tokens::answer_single(data, case.start as usize, out);
             Met::new()
         }
-        b'O' => owners::answer(data, case.walk(), out),
+        b'O' => {
+            let (rows, met) = tokens::rows(data, case.walk());
+            owners::push(rows, out);
+            met
+        }
         b'C' => {
-            let (room, data) = data.split_first_chunk::<ROOM>().expect("a case has it");
-            let call = calls::Call {
-                owners: case.flag(4),
-                room: u32::from_le_bytes(*room),
-            };
-            calls::answer(data, case.walk(), call, out)
+            let (rows, met) = tokens::rows(data, case.walk());
+            calls::push(rows, case.call(), out);
+            met
         }
         mode => unreachable!("a case of mode {mode}"),
     }
-}
-
-fn state_words(bytes: &[u8]) -> [u64; 5] {
-    let mut words = [0; 5];
-    for (word, bytes) in words.iter_mut().zip(bytes.as_chunks::<8>().0) {
-        *word = u64::from_le_bytes(*bytes);
-    }
-    words
 }

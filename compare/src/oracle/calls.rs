@@ -3,10 +3,9 @@
 //! The printed Rust has no such calls. The sheet's words are made from its walk's tokens, the owner
 //! table is mode O's, and document 01's rules for lent words come on top.
 
-use crate::oracle::differences::Met;
 use crate::oracle::owners;
 use crate::oracle::refusal::Refusal;
-use crate::oracle::tokens::{self, Asked, Row};
+use crate::oracle::tokens::Row;
 use std::fmt::Write;
 
 /// The most words that a case lends.
@@ -51,16 +50,12 @@ fn packed<const N: usize>(fields: [(u64, u32); N]) -> u64 {
     })
 }
 
-/// Mode C.
-pub fn answer(data: &[u8], asked: Asked, call: Call, out: &mut String) -> Met {
-    let (words, met): (Result<Vec<u64>, Refusal>, Met) = if call.owners {
-        let (table, met) = owners::of_stream(data, asked);
-        let wide = |table: Vec<u32>| table.into_iter().map(u64::from).collect();
-        (table.map(wide), met)
+/// Mode C, of a walk's tokens.
+pub(crate) fn push(rows: Result<Vec<Row>, Refusal>, call: Call, out: &mut String) {
+    let words: Result<Vec<u64>, Refusal> = if call.owners {
+        owners::of_rows(rows).map(|table| table.into_iter().map(u64::from).collect())
     } else {
-        let (rows, met) = tokens::rows(data, asked);
-        let sheet = |rows: Vec<Row>| rows.iter().map(Row::word).collect();
-        (rows.map(sheet), met)
+        rows.map(|rows| rows.iter().map(Row::word).collect())
     };
 
     let room = MOST_ROOM.min(call.room as usize);
@@ -84,5 +79,4 @@ pub fn answer(data: &[u8], asked: Asked, call: Call, out: &mut String) -> Met {
         write!(out, " {word:0digits$x}").expect("a String takes all");
     }
     out.push('\n');
-    met
 }

@@ -45,7 +45,7 @@ impl Record {
         }
     }
 
-    fn fields(&self) -> String {
+    pub(crate) fn fields(&self) -> String {
         let Record {
             size,
             id,
@@ -78,7 +78,7 @@ impl Answer {
         }
     }
 
-    fn line(&self) -> String {
+    pub(crate) fn line(&self) -> String {
         match self {
             Answer::Record(record) => {
                 let item = if record.carved { "carved" } else { "live" };
@@ -120,7 +120,7 @@ impl State {
     }
 }
 
-fn refused(Refusal { number, place }: Refusal) -> String {
+pub(crate) fn refused(Refusal { number, place }: Refusal) -> String {
     format!("refused {number} {place}\n")
 }
 
@@ -327,7 +327,7 @@ pub fn answer_step(chunk: &[u8], state: State, out: &mut String) -> Met {
 }
 
 /// A line of a word and numbers.
-fn words<N: std::fmt::Display>(word: &str, numbers: &[N]) -> String {
+pub(crate) fn words<N: std::fmt::Display>(word: &str, numbers: &[N]) -> String {
     let mut line = word.to_owned();
     for number in numbers {
         write!(line, " {number}").expect("a String takes all");

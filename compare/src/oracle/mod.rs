@@ -14,10 +14,10 @@ pub mod tokens;
 mod values;
 
 /// Document 01's length of a chunk, and its limit for a stream.
-const CHUNK_SIZE: usize = 65536;
+pub(crate) const CHUNK_SIZE: usize = 65536;
 
 /// Bytes as the batch format writes them: lower-case hex, `-` where there are none.
-fn hex(bytes: &[u8]) -> String {
+pub(crate) fn hex(bytes: &[u8]) -> String {
     use std::fmt::Write;
     if bytes.is_empty() {
         return "-".to_owned();

@@ -4,14 +4,13 @@
 //! is read here by a machine with a stack, for lists of any length. bodies.rs says what it has to
 //! answer, and the checks hold the two together.
 
-use crate::oracle::differences::Met;
+use crate::oracle::chunk::{refused, words};
 use crate::oracle::kinds::{
     ATTRIBUTE, CDATA, CLOSE_ELEMENT, CLOSE_EMPTY, CLOSE_START, INSTANCE, ITEMS, OPEN, PI_DATA,
     PI_TARGET,
 };
 use crate::oracle::refusal::Refusal;
-use crate::oracle::tokens::{self, Asked};
-use std::fmt::Write;
+use crate::oracle::tokens::Row;
 
 /// Document 01's limit: 14 is for what "opens level 65".
 pub const MOST_LEVELS: usize = 64;
@@ -74,29 +73,17 @@ pub fn owners(kinds: &[u8], most_levels: usize) -> Result<Vec<u32>, Refusal> {
     }
 }
 
-/// The owner table of a stream. Document 01's order of refusals: 1; then the walk's, first met; then
-/// 13, 14 or 15.
-pub(super) fn of_stream(data: &[u8], asked: Asked) -> (Result<Vec<u32>, Refusal>, Met) {
-    let (rows, met) = tokens::rows(data, asked);
-    let table = rows.and_then(|rows| {
-        let kinds: Vec<u8> = rows.iter().map(|row| row.kind).collect();
-        owners(&kinds, MOST_LEVELS)
-    });
-    (table, met)
+/// The owner table of a walk's tokens. Document 01's order of refusals: 1; then the walk's, first met;
+/// then 13, 14 or 15.
+pub(super) fn of_rows(rows: Result<Vec<Row>, Refusal>) -> Result<Vec<u32>, Refusal> {
+    let kinds: Vec<u8> = rows?.iter().map(|row| row.kind).collect();
+    owners(&kinds, MOST_LEVELS)
 }
 
-/// Mode O.
-pub fn answer(data: &[u8], asked: Asked, out: &mut String) -> Met {
-    let (table, met) = of_stream(data, asked);
-    match table {
-        Ok(words) => {
-            out.push_str("owners");
-            let mut words = words.iter();
-            words.try_for_each(|word| write!(out, " {word}"))
-        }
-        Err(Refusal { number, place }) => write!(out, "refused {number} {place}"),
+/// Mode O, of a walk's tokens.
+pub(crate) fn push(rows: Result<Vec<Row>, Refusal>, out: &mut String) {
+    match of_rows(rows) {
+        Ok(table) => out.push_str(&words("owners", &table)),
+        Err(refusal) => out.push_str(&refused(refusal)),
     }
-    .expect("a String takes all");
-    out.push('\n');
-    met
 }

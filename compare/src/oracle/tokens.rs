@@ -285,14 +285,14 @@ fn walked<R>(data: &[u8], asked: Asked, then: impl FnOnce(Walked<'_>) -> R) -> R
 }
 
 /// What the sheet says of a token.
-pub(super) struct Row {
-    pub(super) kind: u8,
-    pub(super) place: usize,
-    pub(super) length: usize,
+pub(crate) struct Row {
+    pub(crate) kind: u8,
+    pub(crate) place: usize,
+    pub(crate) length: usize,
     /// Dependency, char or substitution, else 0.
-    pub(super) number: u16,
+    pub(crate) number: u16,
     /// Dependency present, or optional.
-    pub(super) flag: bool,
+    pub(crate) flag: bool,
 }
 
 impl Row {
@@ -372,12 +372,21 @@ fn push_line(data: &[u8], placed: &Placed<'_>, out: &mut String) -> std::fmt::Re
 
 /// Mode S.
 pub fn answer_single(stream: &[u8], consumed: usize, out: &mut String) {
-    match single_instance_offset(stream) {
+    push_single(
+        single_instance_offset(stream),
+        ends_stream(stream, consumed),
+        out,
+    );
+}
+
+/// The lines of mode S.
+pub(crate) fn push_single(offset: Option<usize>, ends: Option<bool>, out: &mut String) {
+    match offset {
         Some(offset) => writeln!(out, "single {offset}"),
         None => writeln!(out, "single none"),
     }
     .expect("a String takes all");
-    out.push_str(match ends_stream(stream, consumed) {
+    out.push_str(match ends {
         Some(true) => "ends yes\n",
         Some(false) => "ends no\n",
         None => "ends none\n",

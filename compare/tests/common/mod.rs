@@ -12,11 +12,21 @@ pub fn case(mode: u8, flags: u8, start: u32, length: u32, data: &[u8]) -> Vec<u8
     case
 }
 
-/// The answer lines of a batch; if `mark`, with the rows of the list of differences that it meets.
-pub fn answers(batch: &[u8], mark: bool) -> String {
-    let mut out = Vec::new();
-    batch::run(&mut &batch[..], &mut out, mark).expect("memory takes all");
-    String::from_utf8(out).expect("answers are text")
+/// The answer lines of a batch by the printed Rust, and by document 01's second reading with the rows of the list of differences.
+pub fn both(batch: &[u8]) -> (String, String) {
+    let (mut rust, mut held) = (Vec::new(), Vec::new());
+    batch::run(&mut &batch[..], &mut rust).expect("memory takes all");
+    batch::run_held(&mut &batch[..], &mut held).expect("memory takes all");
+    let text = |out| String::from_utf8(out).expect("answers are text");
+    (text(rust), text(held))
+}
+
+/// The answer lines of a batch that meets no difference.
+#[allow(dead_code, reason = "not every check uses it")]
+pub fn answers(batch: &[u8]) -> String {
+    let (rust, held) = both(batch);
+    assert_eq!(rust, held);
+    rust
 }
 
 pub fn hex(text: &str) -> Vec<u8> {

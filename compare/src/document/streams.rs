@@ -1,0 +1,256 @@
+//! 'Token walk', sentence by sentence.
+
+use super::reader::{Read, Reader};
+use super::values::{self, Value};
+use crate::oracle::refusal::Refusal;
+use crate::oracle::tokens::{Asked, Row};
+use crate::oracle::{CHUNK_SIZE, hex, kinds};
+use std::fmt::Write;
+
+/// "an instance": its definition's offset and its values.
+pub struct Instance {
+    pub id: u32,
+    pub definition: u32,
+    guid: Option<Vec<u8>>,
+    pub values: Vec<Value>,
+}
+
+/// What a token holds.
+enum Held<'a> {
+    Nothing,
+    Instance(Instance),
+    /// An open token's name and dependency.
+    Open(u32, Option<u16>),
+    Name(u32),
+    /// A view's bytes.
+    Text(&'a [u8]),
+    CharRef(u16),
+    Substitution(u16, bool),
+    Value(Value),
+}
+
+/// A token from its byte's place to where the walk reads on.
+pub struct Token<'a> {
+    kind: u8,
+    place: usize,
+    next: usize,
+    held: Held<'a>,
+}
+
+/// The tokens of a walk and how it ends.
+pub struct Walk<'a> {
+    pub tokens: Vec<Token<'a>>,
+    pub end: Result<(), Refusal>,
+}
+
+/// The whole walk.
+pub fn walk(data: &[u8], asked: Asked) -> Walk<'_> {
+    let mut tokens = Vec::new();
+    let end = read_tokens(data, asked, &mut tokens);
+    Walk { tokens, end }
+}
+
+/// "Tokens are read while the position is below start plus length; the last may run over."
+fn read_tokens<'a>(data: &'a [u8], asked: Asked, tokens: &mut Vec<Token<'a>>) -> Read<()> {
+    if data.len() > CHUNK_SIZE {
+        return Reader::refuse(1, 0);
+    }
+    let mut reader = Reader::new(data, asked.start)?;
+    while reader.at < asked.start + asked.length {
+        let place = reader.at;
+        let (kind, held) = match reader.byte()? {
+            // "Byte 00 ends the walk; 0F takes three bytes, each a read of its own; neither is handed on."
+            0x00 => break,
+            0x0f => {
+                for _ in 0..3 {
+                    reader.byte()?;
+                }
+                continue;
+            }
+            byte => read_token(byte, &mut reader, asked)?,
+        };
+        tokens.push(Token {
+            kind,
+            place,
+            next: reader.at,
+            held,
+        });
+    }
+    Ok(())
+}
+
+/// "Tokens: .."
+fn read_token<'a>(byte: u8, reader: &mut Reader<'a>, asked: Asked) -> Read<(u8, Held<'a>)> {
+    let inline = asked.inline_names;
+    Ok(match byte {
+        0x0c => (kinds::INSTANCE, Held::Instance(instance(reader)?)),
+        0x01 | 0x41 => (kinds::OPEN, open(reader, byte == 0x41, asked)?),
+        0x02 => (kinds::CLOSE_START, Held::Nothing),
+        0x03 => (kinds::CLOSE_EMPTY, Held::Nothing),
+        0x04 => (kinds::CLOSE_ELEMENT, Held::Nothing),
+        0x05 | 0x45 => (kinds::VALUE, Held::Value(values::read_unsized(reader)?)),
+        0x06 | 0x46 => (kinds::ATTRIBUTE, Held::Name(name(reader, inline)?)),
+        0x07 | 0x47 => (kinds::CDATA, Held::Text(text(reader)?)),
+        0x08 | 0x48 => (kinds::CHAR_REF, Held::CharRef(reader.half()?)),
+        0x09 | 0x49 => (kinds::ENTITY_REF, Held::Name(name(reader, inline)?)),
+        0x0a => (kinds::PI_TARGET, Held::Name(name(reader, inline)?)),
+        0x0b => (kinds::PI_DATA, Held::Text(text(reader)?)),
+        0x0d | 0x0e => {
+            let number = reader.half()?;
+            values::read_code(reader)?;
+            (
+                kinds::SUBSTITUTION,
+                Held::Substitution(number, byte == 0x0e),
+            )
+        }
+        _ => return Reader::refuse(9, reader.at),
+    })
+}
+
+/// "Open: dependency u16 if carried (0xFFFF means none), u32, name, and u32 for 41."
+fn open<'a>(reader: &mut Reader<'a>, more: bool, asked: Asked) -> Read<Held<'a>> {
+    let dependency = if asked.dependencies {
+        Some(reader.half()?).filter(|&dependency| dependency != 0xffff)
+    } else {
+        None
+    };
+    reader.word()?;
+    let name = name(reader, asked.inline_names)?;
+    if more {
+        reader.word()?;
+    }
+    Ok(Held::Open(name, dependency))
+}
+
+/// A name's offset; an inline one's is its start.
+fn name(reader: &mut Reader<'_>, inline: bool) -> Read<u32> {
+    let start = reader.at;
+    if inline {
+        inline_name(reader)?;
+        return Ok(start as u32);
+    }
+    // "Offset name: u32; if it equals the position after it, a u32, a u16 and a u16 n follow, and the position is set 10
+    // + 2n past that point."
+    let offset = reader.word()?;
+    let after = reader.at;
+    if after == offset as usize {
+        reader.word()?;
+        reader.half()?;
+        let units = usize::from(reader.half()?);
+        reader.set(after + 10 + 2 * units)?;
+    }
+    Ok(offset)
+}
+
+/// "Inline name: hash u16, count u16, units, zero unit; hash is h·65599 + unit modulo 2^32 from 0, low 16 bits. 11 comes
+/// before 12."
+fn inline_name(reader: &mut Reader<'_>) -> Read<()> {
+    let start = reader.at;
+    let stored = reader.half()?;
+    let count = reader.half()?;
+    let mut hash: u32 = 0;
+    for _ in 0..count {
+        hash = hash
+            .wrapping_mul(65599)
+            .wrapping_add(u32::from(reader.half()?));
+    }
+    if reader.half()? != 0 {
+        return Reader::refuse(11, start);
+    }
+    if hash as u16 != stored {
+        return Reader::refuse(12, start);
+    }
+    Ok(())
+}
+
+/// "CDATA and PI data: u16 n, then n units; the view stops before the first zero unit."
+fn text<'a>(reader: &mut Reader<'a>) -> Read<&'a [u8]> {
+    let units = usize::from(reader.half()?);
+    Ok(values::view(reader.take(2 * units)?))
+}
+
+/// "Instance: a byte, id u32, offset u32. If the position equals the offset: u32, 16 byte GUID, u32 n, then n bytes
+/// skipped. Count u32, then descriptors of size u16, type, a byte. The whole table is read before any value."
+fn instance(reader: &mut Reader<'_>) -> Read<Instance> {
+    reader.byte()?;
+    let id = reader.word()?;
+    let definition = reader.word()?;
+    let mut guid = None;
+    if reader.at == definition as usize {
+        reader.word()?;
+        guid = Some(reader.take(16)?.to_vec());
+        let skipped = reader.word()? as usize;
+        reader.set(reader.at + skipped)?;
+    }
+    let mut table = Vec::new();
+    for _ in 0..reader.word()? {
+        let size = reader.half()?;
+        table.push((size, values::read_code(reader)?));
+        reader.byte()?;
+    }
+    let values = table.into_iter();
+    let values = values.map(|(size, code)| values::read_sized(reader, code, size));
+    Ok(Instance {
+        id,
+        definition,
+        guid,
+        values: values.collect::<Read<_>>()?,
+    })
+}
+
+impl Token<'_> {
+    pub fn instance(&self) -> Option<&Instance> {
+        match &self.held {
+            Held::Instance(instance) => Some(instance),
+            _ => None,
+        }
+    }
+
+    /// What the sheet says of it.
+    pub(super) fn row(&self) -> Row {
+        let (number, flag) = match self.held {
+            Held::Open(_, dependency) => (dependency.unwrap_or(0), dependency.is_some()),
+            Held::CharRef(number) => (number, false),
+            Held::Substitution(number, optional) => (number, optional),
+            _ => (0, false),
+        };
+        Row {
+            kind: self.kind,
+            place: self.place,
+            length: self.next - self.place,
+            number,
+            flag,
+        }
+    }
+
+    /// Its line in mode T.
+    pub(super) fn push_line(&self, out: &mut String) -> std::fmt::Result {
+        let (place, kind) = (self.place, self.kind);
+        write!(out, "{place} {} {kind}", self.next - place)?;
+        match &self.held {
+            Held::Nothing => Ok(()),
+            Held::Open(name, Some(dependency)) => write!(out, " {name} {dependency}"),
+            Held::Open(name, None) => write!(out, " {name} -"),
+            Held::Name(name) => write!(out, " {name}"),
+            Held::Text(view) => write!(out, " {}", hex(view)),
+            Held::CharRef(number) => write!(out, " {number}"),
+            Held::Substitution(number, optional) => {
+                write!(out, " {number} {}", u8::from(*optional))
+            }
+            Held::Value(value) => write!(out, " {}", value.field()),
+            Held::Instance(Instance {
+                id,
+                definition,
+                guid,
+                values,
+            }) => {
+                let guid = guid.as_deref().map_or("-".to_owned(), hex);
+                write!(out, " {id} {definition} {guid} {}", values.len())?;
+                let mut values = values.iter();
+                values.try_for_each(|value| write!(out, " {}", value.field()))
+            }
+        }?;
+        out.push('\n');
+        Ok(())
+    }
+}
