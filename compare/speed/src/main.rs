@@ -6,6 +6,9 @@
 //! speed --run SIDE CASE CALLS  so many calls of a side (rust, stand-in, port), for a profiler
 //! ```
 
+#[cfg(not(feature = "vector"))]
+extern crate compare as compare_vector;
+
 mod cases;
 mod clock;
 mod inputs;
@@ -41,17 +44,24 @@ fn main() -> ExitCode {
     }
 }
 
+/// With what the Rust searches and counts.
+fn say_sources() {
+    for (does, source, name) in [
+        ("searches", MEMCHR, "memchr is not at hand (MEMCHR_SRC)"),
+        ("counts", CRC, "crc32fast is not at hand (CRC_SRC)"),
+    ] {
+        if source.is_empty() {
+            println!("{name}: the Rust {does} with the plain stand-in");
+        } else {
+            println!("the Rust {does} with {source}");
+        }
+    }
+}
+
 /// Whether both sides answer the same in every case.
 fn check(cases: &[Case]) -> bool {
-    if MEMCHR.is_empty() {
-        println!("memchr is not at hand (MEMCHR_SRC): the Rust searches with the plain stand-in");
-    } else {
-        println!("the Rust searches with {MEMCHR}");
-    }
-    if CRC.is_empty() {
-        println!("crc32fast is not at hand (CRC_SRC): the Rust counts with the plain stand-in");
-    } else {
-        println!("the Rust counts its checksums with {CRC}");
+    if cfg!(feature = "vector") {
+        say_sources();
     }
     let mut equal = 0;
     for case in cases {
