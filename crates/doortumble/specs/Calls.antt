@@ -4,8 +4,7 @@ use mathlib.Core.Bool.{Bool, not}
 use mathlib.Core.List.{List}
 use Prim.Native.Nat.{ℕ, _+_, _*_, _%_, _^_}
 use lib.Dec.{eqb}
-use Rattle.cursor.specs.declared.Counted.{Counted}
-use Rattle.cursor.specs.declared.Counted.the-variants as C
+use Rattle.cursor.specs.Answer.{Result, gives, refuses}
 use Rattle.tokens.specs.Walk.{Walked}
 use Rattle.tokens.specs.declared.Flags.{Flags}
 use Rattle.body.specs.Verdict.{Answered}
@@ -20,14 +19,14 @@ abbrev pub flagsOf : ℕ → ℕ → Flags
 flagsOf dependencies inline = record { dependencies = flagOf dependencies; inline = flagOf inline }
 
 -- "Answer: refused 1 bit, number 7, 16 zeros, place or count 40."
-abbrev pub packedOf : Counted → ℕ
-packedOf (C.Count n) = n % 2 ^ 40
-packedOf (C.Refused r) = 2 ^ 63 + r .number % 2 ^ 7 * 2 ^ 56 + r .place % 2 ^ 40
+abbrev pub packedOf : Result ℕ → ℕ
+packedOf (gives n) = n % 2 ^ 40
+packedOf (refuses k p) = 2 ^ 63 + k % 2 ^ 7 * 2 ^ 56 + p % 2 ^ 40
 
 -- the answer word is that of an answer that the owner table's definition allows, with what is left in the table
 abbrev pub OwnersPacked : Walked → List ℕ → List ℕ → ℕ → Type 0
-OwnersPacked w lent left word = (c : Counted) × ((word ≡ packedOf c) × Answered lent left w c)
+OwnersPacked w lent left word = (o : Result ℕ) × ((word ≡ packedOf o) × Answered lent left w o)
 
 -- the same for the listing
 abbrev pub ListPacked : List ℕ → Bool → List ℕ → List ℕ → ℕ → Type 0
-ListPacked s recovery lent left word = (c : Counted) × ((word ≡ packedOf c) × Lists s (startOf recovery) lent left c)
+ListPacked s recovery lent left word = (o : Result ℕ) × ((word ≡ packedOf o) × Lists s (startOf recovery) lent left o)

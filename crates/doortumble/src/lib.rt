@@ -4,11 +4,12 @@
 use cursor::Counted;
 use tokens::Flags;
 ghost use mathlib.Core.Path.{_≡_};
+ghost use Rattle.cursor.specs.Answers.{countAnswer};
 ghost use Rattle.tokens.specs.Walk.{walkOf};
 ghost use Rattle.sheet.specs.Sheet.{sheetAnswer, sheetWords};
 ghost use Rattle.doortumble.specs.Calls.{flagOf, flagsOf, packedOf, OwnersPacked, ListPacked};
 
-// The sheet of a stream, a word a token.
+// The sheet of a stream.
 #[no_mangle]
 pub extern "C" fn doortumble_sheet(
     stream: &[u8],
@@ -58,7 +59,7 @@ fn flags(dependencies: u32, inline: u32) -> Flags
 
 // The answer word: each field in its own bits.
 fn packed(c: Counted) -> u64
-    ensures { λ r. ⌜ r ≡ packedOf c ⌝ }
+    ensures { λ r. ⌜ r ≡ packedOf (countAnswer c) ⌝ }
 {
     match c {
         Counted::Count(n) => (n % 0x100_0000_0000) as u64,
