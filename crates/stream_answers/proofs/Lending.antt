@@ -8,9 +8,7 @@ use native.Mathlib.Decide.{decLt}
 use borrow.Author.Tests.{le-leb, lt-leb}
 use lib.Dec.{leb}
 use lib.ListN.{length, take, drop, replicate}
-use Rattle.cursor.specs.Answer.{pick}
-use Rattle.cursor.specs.declared.Counted.{Counted}
-use Rattle.cursor.specs.declared.Counted.the-variants as C
+use Rattle.cursor.specs.Answer.{Result, gives, pick}
 use mir.Val.{boolByte}
 use Rattle.tokens.specs.Walk.{Walked}
 use Rattle.tokens.specs.declared.Flags.{Flags}
@@ -43,7 +41,7 @@ drop-short (suc n) [] h = refl
 drop-short (suc n) (x ∷ l) h = drop-short n l (omega arith)
 
 -- a table has a word for each token that is counted
-pub counted-fits : (lent left : List ℕ) (w : Walked) (c : Counted) (n : ℕ) → Answered lent left w c → c ≡ C.Count n → n ≤ length lent
+pub counted-fits : (lent left : List ℕ) (w : Walked) (c : Result ℕ) (n : ℕ) → Answered lent left w c → c ≡ gives n → n ≤ length lent
 counted-fits lent left w c n (unread k p e) h = let y : _≡_ {A = ℕ} 0 1 = cc in absurd (omega arith)
 counted-fits lent left w c n (refused l k p r e) h = let y : _≡_ {A = ℕ} 0 1 = cc in absurd (omega arith)
 counted-fits lent left w c n (no-room l words r m e) h = let y : _≡_ {A = ℕ} 0 1 = cc in absurd (omega arith)

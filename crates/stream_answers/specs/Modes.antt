@@ -5,10 +5,8 @@ use mathlib.Core.List.{List, [], _∷_, _++_}
 use Prim.Native.Nat.{ℕ}
 use lib.Dec.{leb}
 use lib.ListN.{take, drop, replicate}
-use Rattle.cursor.specs.Answer.{pick, Maybe, just, nothing}
+use Rattle.cursor.specs.Answer.{Result, gives, refuses, pick, Maybe, just, nothing}
 use Rattle.cursor.specs.Reads.{numberOf}
-use Rattle.cursor.specs.declared.Counted.{Counted}
-use Rattle.cursor.specs.declared.Counted.the-variants as C
 use Rattle.tokens.specs.Single.{singleOf, endsOf}
 use Rattle.tokens.specs.Walk.{Walked, walkOf}
 use Rattle.sheet.specs.Sheet.{sheetAnswer, sheetWords}
@@ -37,13 +35,13 @@ abbrev pub askedWalk : List ℕ → Asked → Walked
 askedWalk s a = walkOf s (a .start) (a .length) (a .flags)
 
 -- O: "`owners` and the words, or `refused` number place": the words of as many tokens as the answer counts
-abbrev pub ownersText : Counted → List ℕ → List ℕ
-ownersText (C.Count n) left = lineOf (ascii "owners") (take n left)
-ownersText (C.Refused r) left = refusedOf r
+abbrev pub ownersText : Result ℕ → List ℕ → List ℕ
+ownersText (gives n) left = lineOf (ascii "owners") (take n left)
+ownersText (refuses k p) left = refusedOf (record { number = k; place = p })
 
 -- the text of an answer that the owner table's definition allows, with what is left in a table that has a word for each token there can be
 pub record OwnersSaid (w : Walked) (text : List ℕ) : Type 0 where
-  pub answer : Counted
+  pub answer : Result ℕ
   pub left : List ℕ
   pub answered : Answered (replicate 65536 0) left w answer
   pub is : text ≡ ownersText answer left

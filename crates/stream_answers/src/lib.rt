@@ -9,6 +9,7 @@ use cursor::Counted;
 use tokens::Ends;
 use tokens::Flags;
 use tokens::SingleInstance;
+use tokens::Window;
 ghost use Prim.Native.Nat.{_-_, _^_};
 ghost use Rattle.tokens.specs.Single.{singleAnswer, endsAnswer};
 ghost use Rattle.print.specs.Text.{ascii, Puts, PutsSome, lineOf};
@@ -28,17 +29,13 @@ pub const ROOM: usize = 4;
 // The most words that are lent.
 const MOST: usize = 65536;
 
-// Mode T: the tokens, one a line, then how many they are, or the refusal that ends them. A stream and a start that the walk refuses are
-// told by a walk over no bytes.
+// Mode T: the tokens, one a line, then how many they are, or the refusal that ends them.
 pub fn walk(out: &mut [u8], at: usize, s: &[u8], asked: Asked) -> usize
     ensures { λ r. ⌜ Puts (walkText (now (s .entry)) (asked .start) (asked .length) (asked .flags)) (now (out .entry)) at (now (out .exit)) r ⌝ }
 {
-    let from = asked.start as usize;
-    match tokens::count(s, asked.start, 0, asked.flags) {
-        Counted::Refused(r) => print::refused(out, at, r),
-        Counted::Count(_) => {
-            token::lines(out, at, s, from, from + asked.length as usize, asked.flags)
-        }
+    match tokens::window_of(s, asked.start, asked.length) {
+        Window::From(from, end) => token::lines(out, at, s, from, end, asked.flags),
+        Window::Refused(r) => print::refused(out, at, r),
     }
 }
 

@@ -1,6 +1,7 @@
 -- `owners` meets its contract. Assumes nothing.
 use borrow.Author.Needs.{needs}
 use mathlib.Core.Path.{sym, ap}
+use Rattle.cursor.specs.Answers.{countAnswer}
 use Rattle.cursor.specs.declared.Counted.{Counted}
 use Rattle.stream_answers.specs.Modes.{ownersText}
 use Rattle.stream_answers.proofs.Lending.{counted-fits}
@@ -14,7 +15,7 @@ use Rattle.stream_answers.proofs.owners.Tie as tie
 array-share-prefix-table : tie.Need-array-share-prefix-table
 array-share-prefix-table c =
     let o = c .before .before .before .before .before .owners in
-    let h = counted-fits (replicate 65536 0) _ _ _ _ (o .ensures) (c .before .before .n .given .1) in
+    let h = counted-fits (replicate 65536 0) _ _ _ _ (o .ensures) (ap countAnswer (c .before .before .n .given .1)) in
     omega (arith, h, c .before .before .before .before .table2 .given, length-replicate {A = ℕ} 65536 0)
 
 slice-aggregate-owner-line : tie.Need-slice-aggregate-owner-line
@@ -22,7 +23,7 @@ slice-aggregate-owner-line c =
     let p = c .before .before .before .before .before in
     let q = p .before in
     let o = q .owners in
-    let h = counted-fits (replicate 65536 0) _ _ _ _ (o .ensures) (c .before .before .before .n .given .1) in
+    let h = counted-fits (replicate 65536 0) _ _ _ _ (o .ensures) (ap countAnswer (c .before .before .before .n .given .1)) in
     sym (length-take-le _ (o .last .1 .1 .1 .1 .0) (omega (arith, h, p .table2 .given, length-replicate {A = ℕ} 65536 0)))
 
 returns : tie.Need-returns
@@ -33,7 +34,7 @@ returns c =
     let left = o .last .1 .1 .1 .1 .0 in
     record {
       text = _;
-      allowed = record { answer = o .result; left = left; answered = o .ensures; is = ap (λ (x : Counted). ownersText x left) (sym (p .n .given .1)) };
+      allowed = record { answer = countAnswer (o .result); left = left; answered = o .ensures; is = ap (λ (x : Counted). ownersText (countAnswer x) left) (sym (p .n .given .1)) };
       puts = c .before .before .owner-line .ensures;
     }
 
@@ -45,7 +46,7 @@ returns-2 c =
     let left = o .last .1 .1 .1 .1 .0 in
     record {
       text = _;
-      allowed = record { answer = o .result; left = left; answered = o .ensures; is = ap (λ (x : Counted). ownersText x left) (sym (p .r .given .1)) };
+      allowed = record { answer = countAnswer (o .result); left = left; answered = o .ensures; is = ap (λ (x : Counted). ownersText (countAnswer x) left) (sym (p .r .given .1)) };
       puts = c .before .before .refused .ensures;
     }
 
