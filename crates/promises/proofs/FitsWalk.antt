@@ -18,7 +18,7 @@ use Rattle.tokens.specs.Token.{typeAt, substitutionAt, namedAt, openAt, textTok
 use Rattle.tokens.specs.Instance as I
 use Rattle.tokens.specs.Table.{gistAt}
 use Rattle.tokens.specs.Pieces.{dependencyAt, listSizeAt}
-use Rattle.tokens.specs.Walk.{Met, handed, header, over, headerAt, turnAt, onward, stepFrom, stepAt, Walked, ok, bad, before, after, walkFrom, walkAt, walkOf}
+use Rattle.tokens.specs.Walk.{Met, handed, header, over, headerAt, turnAt, onward, stepFrom, stepAt, Walked, ok, bad, before, after, walkFrom, walkAt, walkIn, walkOf}
 use Rattle.tokens.specs.declared.Flags.{Flags}
 use Rattle.tokens.specs.declared.Token.{Token}
 use Rattle.tokens.proofs.Table.{by-line}
@@ -184,8 +184,8 @@ module _ (s : List ℕ) (bytes : Bytes s) where
   pub walk-fits : (start len : ℕ) (f : Flags) → start < 2 ^ 32 → WalkFits 65536 (walkOf s start len f)
   unfolding walkOf
   walk-fits start len f h =
-      either (WalkFits 65536) (leb (length s) 65536) _ _
-      (λ w. either (WalkFits 65536) (leb start (length s)) _ _
+      either (λ x. WalkFits 65536 (walkIn s f x)) (leb (length s) 65536) _ _
+      (λ w. either (λ x. WalkFits 65536 (walkIn s f x)) (leb start (length s)) _ _
       (λ v.
       let short = leb-true (length s) 65536 w in
       more (length s - start) 65536 (walkAt s (start + len) f start) (omega arith)

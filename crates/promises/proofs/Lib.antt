@@ -20,3 +20,5 @@ pub mod FitsValue
 pub mod FitsWalk
 pub mod Packed
 pub mod PackedCalls
+pub mod Numbered
+pub mod Words

@@ -5,7 +5,7 @@ use Prim.Native.Nat.{ℕ}
 use contract.Lifetimes.{Lfts}
 use borrow.Fn.Kinds.{Dens, resT, endedOf}
 use denote.Triple.Clauses.{AtExit}
-use Rattle.cursor.specs.declared.Counted.{Counted}
+use Rattle.cursor.specs.Answer.{Result}
 use Rattle.tokens.specs.Walk.{Walked}
 use Rattle.body.proofs.One.{one-answer}
 use Rattle.doortumble.specs.Calls.{packedOf}
@@ -38,7 +38,7 @@ use Rattle.listing_text.proofs.put.Reads as listingR
 said-one : (w : Walked) (t u : List ℕ) → OwnersSaid w t → OwnersSaid w u → t ≡ u
 said-one w t u p q =
     let e = one-answer _ _ _ (p .answered) (q .answered) in
-    p .is ∙ ap (λ (c : Counted). ownersText c (p .left)) (e .0) ∙ ap (ownersText (q .answer)) (e .1) ∙ sym (q .is)
+    p .is ∙ ap (λ (c : Result ℕ). ownersText c (p .left)) (e .0) ∙ ap (ownersText (q .answer)) (e .1) ∙ sym (q .is)
 
 called-one : (w : Walked) (lent t u : List ℕ) → OwnersCalled w lent t → OwnersCalled w lent u → t ≡ u
 called-one w lent t u p q =

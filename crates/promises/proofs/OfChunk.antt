@@ -9,12 +9,12 @@ use borrow.Fn.Kinds.{Dens, resT, endedOf}
 use denote.Triple.Clauses.{AtExit}
 use lib.Dec.{leb}
 use lib.ListN.{length}
-use Rattle.cursor.specs.Answer.{Answer, given, refused}
+use Rattle.cursor.specs.Answer.{Answer, given, refused, Result}
 use Rattle.record.specs.Chunk.{fieldsAt}
 use Rattle.record.specs.declared.Fields.{Fields}
 use Rattle.chunk.specs.Allowed.{resyncable}
 use Rattle.chunk.specs.Walk.{Choose, resyncOn, ResyncAfter}
-use Rattle.cursor.specs.declared.Counted.{Counted}
+use Rattle.cursor.specs.Answers.{countAnswer}
 use Rattle.chunk.specs.Listing.{Runs, RowsAnswer, listsOn, Lists, rowsOf}
 use Rattle.chunk.specs.declared.Walk.{Walk}
 use Rattle.chunk.specs.declared.Item.{Item}
@@ -31,7 +31,7 @@ use Rattle.chunk.proofs.resync_after.Kinds as resyncK
 use Rattle.chunk.proofs.resync_after.Reads as resyncR
 use Rattle.chunk.proofs.list.Kinds as listK
 use Rattle.chunk.proofs.list.Reads as listR
-use Rattle.promises.proofs.One.{Single}
+use Rattle.promises.proofs.One.{Single, counted-one}
 
 pub start : Single 0 startK.ps startK.r startR.Post
 start κs a x y s t p q = p ∙ sym q
@@ -51,12 +51,12 @@ pub resync-after : Single 1 resyncK.ps resyncK.r resyncR.Post
 resync-after κs a x y s t p q = resync-by _ _ x y (fieldsAt _) p q
 
 -- of two claims that a test chooses from, each fixes the answer and the rows
-chosen-one : (b : Bool) (c r x y : Counted) (w v m n : List ℕ)
+chosen-one : (b : Bool) (c r x y : Result ℕ) (w v m n : List ℕ)
     → Choose b ((x ≡ c) × (m ≡ w)) ((x ≡ r) × (m ≡ v)) → Choose b ((y ≡ c) × (n ≡ w)) ((y ≡ r) × (n ≡ v)) → (x ≡ y) × (m ≡ n)
 chosen-one true c r x y w v m n (p, q) (e, f) = (p ∙ sym e, q ∙ sym f)
 chosen-one false c r x y w v m n (p, q) (e, f) = (p ∙ sym e, q ∙ sym f)
 
-pub lists-by : (s : List ℕ) (w : Walk) (lent m n : List ℕ) (x y : Counted) (f : Answer Fields) → listsOn s w lent m x f → listsOn s w lent n y f → (x ≡ y) × (m ≡ n)
+pub lists-by : (s : List ℕ) (w : Walk) (lent m n : List ℕ) (x y : Result ℕ) (f : Answer Fields) → listsOn s w lent m x f → listsOn s w lent n y f → (x ≡ y) × (m ≡ n)
 lists-by s w lent m n x y (given h k) (items, (r, c)) (others, (q, d)) =
     let e = runs-one s w others items q r in
     chosen-one (leb (length (rowsOf items)) (length lent)) _ _ x y _ _ m n c (subst (λ (l : List Item). RowsAnswer l lent n y) e d)
@@ -65,4 +65,4 @@ lists-by s w lent m n x y (refused k p) (a, b) (c, d) = (a ∙ sym c, b ∙ sym 
 -- answer and lent rows
 pub list : (κs : Lfts 2) (a : Dens κs listK.ps) (x y : resT listK.r κs .Denot) (s t : AtExit (endedOf 2 listK.ps listK.r) κs)
     → listR.Post κs a x s → listR.Post κs a y t → (x ≡ y) × (s .1 .1 .0 .now ≡ t .1 .1 .0 .now)
-list κs a x y s t p q = lists-by _ _ _ _ _ x y (fieldsAt _) p q
+list κs a x y s t p q = let e = lists-by _ _ _ _ _ (countAnswer x) (countAnswer y) (fieldsAt _) p q in (counted-one x y _ (e .0) refl, e .1)

@@ -3,16 +3,22 @@ use mathlib.Core.Path.{_≡_, sym, _∙_}
 use contract.Lifetimes.{Lfts}
 use borrow.Fn.Kinds.{Dens, resT, endedOf}
 use denote.Triple.Clauses.{AtExit}
+use Rattle.sheet.proofs.count.Kinds as countK
+use Rattle.sheet.proofs.count.Reads as countR
 use Rattle.sheet.proofs.fill.Kinds as fillK
 use Rattle.sheet.proofs.fill.Reads as fillR
 use Rattle.sheet.proofs.note.Kinds as noteK
 use Rattle.sheet.proofs.note.Reads as noteR
+use Rattle.promises.proofs.One.{Single, counted-one}
+
+pub count : Single 1 countK.ps countK.r countR.Post
+count κs a x y s t p q = counted-one x y _ p q
 
 pub fill : (κs : Lfts 2) (a : Dens κs fillK.ps) (x y : resT fillK.r κs .Denot) (s t : AtExit (endedOf 2 fillK.ps fillK.r) κs)
     → fillR.Post κs a x s → fillR.Post κs a y t → (x ≡ y) × (s .1 .1 .1 .1 .0 .now ≡ t .1 .1 .1 .1 .0 .now)
-fill κs a x y s t p q = (p .0 ∙ sym (q .0), p .1 ∙ sym (q .1))
+fill κs a x y s t p q = (counted-one x y _ (p .0) (q .0), p .1 ∙ sym (q .1))
 
 pub note : (κs : Lfts 3) (a : Dens κs noteK.ps) (x y : resT noteK.r κs .Denot) (s t : AtExit (endedOf 3 noteK.ps noteK.r) κs)
     → noteR.Post κs a x s → noteR.Post κs a y t
     → (x ≡ y) × (s .1 .1 .1 .1 .0 .now ≡ t .1 .1 .1 .1 .0 .now) × (s .1 .1 .1 .1 .1 .0 .now ≡ t .1 .1 .1 .1 .1 .0 .now)
-note κs a x y s t p q = (p .0 ∙ sym (q .0), p .1 .0 ∙ sym (q .1 .0), p .1 .1 ∙ sym (q .1 .1))
+note κs a x y s t p q = (counted-one x y _ (p .0) (q .0), p .1 .0 ∙ sym (q .1 .0), p .1 .1 ∙ sym (q .1 .1))

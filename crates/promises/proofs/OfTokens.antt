@@ -5,7 +5,7 @@ use Prim.Native.Nat.{ℕ}
 use Rattle.cursor.specs.Answer.{Answer, given, refused, Result, gives, refuses, Maybe, just, nothing}
 use Rattle.tokens.specs.Instance.{ValueNext, nextAnswer}
 use Rattle.tokens.specs.Single.{singleAnswer, endsAnswer}
-use Rattle.tokens.specs.Walk.{Met, handed, header, over, stepAnswer}
+use Rattle.tokens.specs.Walk.{Met, handed, header, over, stepAnswer, windowAnswer}
 use Rattle.tokens.specs.declared.Stepped.{Stepped}
 use Rattle.tokens.specs.declared.Stepped.the-variants as S
 use Rattle.tokens.specs.declared.NextValue.{NextValue}
@@ -14,10 +14,12 @@ use Rattle.tokens.specs.declared.SingleInstance.{SingleInstance}
 use Rattle.tokens.specs.declared.SingleInstance.the-variants as I
 use Rattle.tokens.specs.declared.Ends.{Ends}
 use Rattle.tokens.specs.declared.Ends.the-variants as E
+use Rattle.tokens.specs.declared.Window.{Window}
+use Rattle.tokens.specs.declared.Window.the-variants as W
 use Rattle.tokens.proofs.step.Kinds as stepK
 use Rattle.tokens.proofs.step.Reads as stepR
-use Rattle.tokens.proofs.count.Kinds as countK
-use Rattle.tokens.proofs.count.Reads as countR
+use Rattle.tokens.proofs.window_of.Kinds as windowK
+use Rattle.tokens.proofs.window_of.Reads as windowR
 use Rattle.tokens.proofs.Values.of.Kinds as ofK
 use Rattle.tokens.proofs.Values.of.Reads as ofR
 use Rattle.tokens.proofs.Values.next.Kinds as nextK
@@ -46,8 +48,16 @@ step-one = read-back stepAnswer stepBack back
 pub step : Single 1 stepK.ps stepK.r stepR.Post
 step κs a x y s t p q = step-one x y _ p q
 
-pub count : Single 1 countK.ps countK.r countR.Post
-count κs a x y s t p q = p ∙ sym q
+abbrev windowBack : Result (ℕ × ℕ) → Window
+windowBack (gives (start, end)) = W.From start end
+windowBack (refuses k p) = W.Refused (record { number = k; place = p })
+
+pub window-of : Single 1 windowK.ps windowK.r windowR.Post
+window-of κs a x y s t p q = read-back windowAnswer windowBack back x y _ p q
+  where
+    back : (x : Window) → windowBack (windowAnswer x) ≡ x
+    back (W.From start end) = refl
+    back (W.Refused r) = refl
 
 pub of : Single 0 ofK.ps ofK.r ofR.Post
 of κs a x y s t p q = p ∙ sym q

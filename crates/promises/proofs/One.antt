@@ -20,14 +20,14 @@ Single n ps r post =
 pub read-back : {A B : Type 0} (f : A → B) (g : B → A) → ((x : A) → g (f x) ≡ x) → (x y : A) (b : B) → f x ≡ b → f y ≡ b → x ≡ y
 read-back f g h x y b p q = sym (h x) ∙ ap g (p ∙ sym q) ∙ h y
 
--- a count or a refusal, back from document 01's terms
-abbrev count-back : Result ℕ → Counted
-count-back (gives n) = C.Count n
-count-back (refuses k p) = C.Refused (record { number = k; place = p })
+-- so does one that says what a count is
+abbrev countBack : Result ℕ → Counted
+countBack (gives n) = C.Count n
+countBack (refuses k p) = C.Refused (record { number = k; place = p })
 
-count-same : (x : Counted) → count-back (countAnswer x) ≡ x
-count-same (C.Count n) = refl
-count-same (C.Refused r) = refl
-
-pub one-count : (x y : Counted) → countAnswer x ≡ countAnswer y → x ≡ y
-one-count x y e = read-back countAnswer count-back count-same x y (countAnswer y) e refl
+pub counted-one : (x y : Counted) (o : Result ℕ) → countAnswer x ≡ o → countAnswer y ≡ o → x ≡ y
+counted-one = read-back countAnswer countBack back
+  where
+    back : (x : Counted) → countBack (countAnswer x) ≡ x
+    back (C.Count n) = refl
+    back (C.Refused r) = refl

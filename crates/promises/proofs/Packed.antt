@@ -6,11 +6,9 @@ use Prim.Native.Nat.{ℕ, _+_, _*_, _/_, _%_, _^_, _≤_, _<_}
 use native.Mathlib.Omega.{arith}
 use lib.Dec.{eqb, leb}
 use lib.ListN.{length, length-map}
-use Rattle.cursor.specs.Answer.{Answer, given, refused, must}
+use Rattle.cursor.specs.Answer.{Answer, given, refused, Result, gives, refuses, must}
 use Rattle.cursor.specs.Reads.{little, startsWith}
 use Rattle.cursor.specs.Refusals.{wrongLength, wrongMagic}
-use Rattle.cursor.specs.declared.Counted.{Counted}
-use Rattle.cursor.specs.declared.Counted.the-variants as C
 use Rattle.cursor.proofs.Choice.{either}
 use Rattle.record.specs.Chunk.{fieldsAt, chunkSize, chunkMagic}
 use Rattle.record.specs.declared.Fields.{Fields}
@@ -19,7 +17,8 @@ use Rattle.tokens.specs.Table.{gistAt}
 use Rattle.tokens.specs.Walk.{Walked, ok, bad, turnAt, stepFrom, walkFrom, walkOf}
 use Rattle.tokens.specs.declared.Flags.{Flags}
 use Rattle.tokens.specs.declared.Token.{Token}
-use Rattle.sheet.specs.Sheet.{wordsPerToken, sheetAnswer, kindsOf}
+use Rattle.sheet.specs.Sheet.{wordsOf, sheetAnswer, markOf, kindsOf}
+use Rattle.sheet.proofs.Laying.{words-length}
 use Rattle.body.specs.Verdict.{Refuses, no-body, too-deep, unfinished-body, Answered, unread, refused, no-room, a-body}
 use Rattle.chunk.specs.Walk.{Choose, startOf}
 use Rattle.chunk.specs.Listing.{rowsOf, listsOn, Lists}
@@ -31,32 +30,33 @@ use Rattle.promises.proofs.Fits.{Small, Fits, on}
 use Rattle.promises.proofs.FitsWalk.{WalkFits, walk-fits}
 
 -- an answer whose fields fit in their bits
-abbrev pub InBits : Counted → Type 0
-InBits (C.Count n) = n < 2 ^ 40
-InBits (C.Refused r) = (r .number < 2 ^ 7) × (r .place < 2 ^ 40)
+abbrev pub InBits : Result ℕ → Type 0
+InBits (gives n) = n < 2 ^ 40
+InBits (refuses k p) = (k < 2 ^ 7) × (p < 2 ^ 40)
 
-abbrev Kept : Counted → Type 0
-Kept c = unpackedOf (packedOf c) ≡ c
+abbrev Kept : Result ℕ → Type 0
+Kept o = unpackedOf (packedOf o) ≡ o
 
-pub answer-kept : (c : Counted) → InBits c → Kept c
-answer-kept (C.Count n) h =
+pub answer-kept : (o : Result ℕ) → InBits o → Kept o
+answer-kept (gives n) h =
     let e : n % 2 ^ 40 % 2 ^ 40 ≡ n = omega arith in
     let z : n % 2 ^ 40 / 2 ^ 63 ≡ 0 = omega arith in
-    rw z (ap C.Count e)
-answer-kept (C.Refused r) h =
-    let word = packedOf (C.Refused r) in
+    rw z (ap gives e)
+answer-kept (refuses k p) h =
+    let word = packedOf (refuses k p) in
     let z : word / 2 ^ 63 ≡ 1 = omega (arith, h .0, h .1) in
-    let k : word / 2 ^ 56 % 2 ^ 7 ≡ r .number = omega (arith, h .0, h .1) in
-    let p : word % 2 ^ 40 ≡ r .place = omega (arith, h .0, h .1) in
-    rw z (λ i. C.Refused (record { number = k i; place = p i }))
+    let a : word / 2 ^ 56 % 2 ^ 7 ≡ k = omega (arith, h .0, h .1) in
+    let b : word % 2 ^ 40 ≡ p = omega (arith, h .0, h .1) in
+    rw z (λ i. refuses (a i) (b i))
 
 -- a refusal as the reads give it
-small-bits : (k p : ℕ) → Small k p → InBits (C.Refused (record { number = k; place = p }))
+small-bits : (k p : ℕ) → Small k p → InBits (refuses k p)
 small-bits k p h = (h .0, omega (arith, h .1))
 
 -- the sheet: the walk's own refusal, or a number of tokens
 sheet-bits : (w : Walked) (lent : List ℕ) → WalkFits 65536 w → InBits (sheetAnswer w lent)
-sheet-bits (ok l) lent h = either InBits (leb (wordsPerToken * length l) (length lent)) _ _ (λ e. omega arith) (λ e. (omega arith, omega arith))
+sheet-bits (ok l) lent h =
+    either InBits (leb (length (wordsOf l)) (length lent)) _ _ (λ e. omega arith) (λ e. (omega arith, omega (arith, words-length l)))
 sheet-bits (bad k p) lent h = small-bits k p h
 
 -- the owner table: a refusal by the grammar has a token's number for its place, or the number of tokens
@@ -66,9 +66,9 @@ grammar-small kinds (too-deep i x) h = (omega arith, omega (arith, x .there))
 grammar-small kinds (unfinished-body x) h = (omega arith, omega arith)
 
 kinds-short : (l : List Token) → length l ≤ 65536 → length (kindsOf l) ≤ 65536
-kinds-short l h = omega (arith, length-map l (λ (t : Token). t .kind))
+kinds-short l h = omega (arith, length-map l markOf)
 
-owners-bits : (lent left : List ℕ) {w : Walked} {c : Counted} → Answered lent left w c → WalkFits 65536 w → InBits c
+owners-bits : (lent left : List ℕ) {w : Walked} {o : Result ℕ} → Answered lent left w o → WalkFits 65536 w → InBits o
 owners-bits lent left (unread k p e) h = small-bits k p h
 owners-bits lent left (refused l k p x e) h = small-bits k p (grammar-small (kindsOf l) x (kinds-short l h))
 owners-bits lent left (no-room l words x g e) h = (omega arith, omega arith)
@@ -85,11 +85,11 @@ fields-fit s =
     on 65536 (must (eqb (length s) chunkSize) wrongLength 0) _ (must-fits (eqb (length s) chunkSize) wrongLength (omega arith)) (λ x n h.
     on 65536 (must (startsWith s chunkMagic) wrongMagic 0) _ (must-fits (startsWith s chunkMagic) wrongMagic (omega arith)) (λ y m k. omega arith))
 
-chosen-bits : (b : Bool) (x y c : Counted) (A B : Type 0) → InBits x → InBits y → Choose b ((c ≡ x) × A) ((c ≡ y) × B) → InBits c
+chosen-bits : (b : Bool) (x y c : Result ℕ) (A B : Type 0) → InBits x → InBits y → Choose b ((c ≡ x) × A) ((c ≡ y) × B) → InBits c
 chosen-bits true x y c A B h k (e, z) = subst InBits (sym e) h
 chosen-bits false x y c A B h k (e, z) = subst InBits (sym e) k
 
-list-bits : (s : List ℕ) (recovery : Bool) (lent left : List ℕ) (c : Counted) (a : Answer Fields) → fieldsAt s ≡ a → Fits 65536 a
+list-bits : (s : List ℕ) (recovery : Bool) (lent left : List ℕ) (c : Result ℕ) (a : Answer Fields) → fieldsAt s ≡ a → Fits 65536 a
     → listsOn s (startOf recovery) lent left c a → InBits c
 list-bits s recovery lent left c (given h n) e f (items, (r, x)) =
     let few = most-answers s h n e recovery items r in
@@ -105,7 +105,7 @@ module _ (s : List ℕ) (bytes : Bytes s) (start len : ℕ) (u32 : start < 2 ^ 3
       answer-kept (sheetAnswer w lent) (sheet-bits w lent (walk-fits s bytes start len f u32))
 
   -- and every answer of the owner table
-  pub owners-kept : (lent left : List ℕ) (c : Counted) → Answered lent left (walkOf s start len f) c → unpackedOf (packedOf c) ≡ c
+  pub owners-kept : (lent left : List ℕ) (c : Result ℕ) → Answered lent left (walkOf s start len f) c → unpackedOf (packedOf c) ≡ c
   owners-kept lent left c x = answer-kept c (owners-bits lent left x (walk-fits s bytes start len f u32))
 
   -- so what a caller takes from the call's word is the answer that the definition allows
@@ -115,7 +115,7 @@ module _ (s : List ℕ) (bytes : Bytes s) (start len : ℕ) (u32 : start < 2 ^ 3
       subst (Answered lent left (walkOf s start len f)) (sym (ap unpackedOf e ∙ owners-kept lent left c x)) x
 
 -- the listing's answer, of any slice
-pub list-kept : (s : List ℕ) (recovery : Bool) (lent left : List ℕ) (c : Counted) → Lists s (startOf recovery) lent left c
+pub list-kept : (s : List ℕ) (recovery : Bool) (lent left : List ℕ) (c : Result ℕ) → Lists s (startOf recovery) lent left c
     → unpackedOf (packedOf c) ≡ c
 list-kept s recovery lent left c x = answer-kept c (list-bits s recovery lent left c (fieldsAt s) refl (fields-fit s) x)
 
@@ -125,6 +125,6 @@ list-told s recovery lent left word (c, (e, x)) =
     subst (Lists s (startOf recovery) lent left) (sym (ap unpackedOf e ∙ list-kept s recovery lent left c x)) x
 
 -- places past 2^32 are met, so that 32 bits would not do
-pub far-place : unpackedOf (packedOf (sheetAnswer (walkOf farStream 0 34 (flagsOf 0 0)) [])) ≡ C.Refused (record { number = 2; place = 2 ^ 32 + 33 })
+pub far-place : unpackedOf (packedOf (sheetAnswer (walkOf farStream 0 34 (flagsOf 0 0)) [])) ≡ refuses 2 (2 ^ 32 + 33)
 unfolding little gistAt tableAt valuesAt turnAt stepFrom walkFrom walkOf
 far-place = refl

@@ -4,8 +4,9 @@ use mathlib.Core.List.{List}
 use Prim.Native.Nat.{ℕ}
 use Rattle.cursor.specs.Reads.{little}
 use Rattle.cursor.specs.Text.{unitsOf, beforeZero}
-use Rattle.cursor.specs.declared.Counted.{Counted}
+use Rattle.cursor.specs.Answer.{Result}
 use Rattle.name.specs.Hash.{hashFrom}
+use Rattle.name.specs.Name.{unitsAt}
 use Rattle.value.specs.Kinds.{among, knownCode, widthOf}
 use Rattle.value.specs.Value.{sizedAt, unsizedAt}
 use Rattle.tokens.specs.Instance.{tableAt, valuesAt}
@@ -22,10 +23,10 @@ abbrev _and_ : {A B : Type 0} → A → B → A × B
 a and b = (a, b)
 
 -- what the reader computes for a walk is what the grammar says of it
-a-body : (w : Walked) (lent : List ℕ) (r : Counted) (left : List ℕ) → answerOf w lent ≡ r → leftOf w lent ≡ left → Answered lent left w r
+a-body : (w : Walked) (lent : List ℕ) (r : Result ℕ) (left : List ℕ) → answerOf w lent ≡ r → leftOf w lent ≡ left → Answered lent left w r
 a-body w lent r left e f = subst (λ (l : List ℕ). Answered lent l w r) f (subst (Answered lent (leftOf w lent) w) e (answer-holds w lent))
 
 pub all-samples : All samples
-unfolding samples little unitsOf beforeZero hashFrom among knownCode widthOf sizedAt unsizedAt tableAt valuesAt singleOf gistAt turnAt stepFrom walkFrom walkOf opening step ended outcome wordsFrom
+unfolding samples little unitsOf beforeZero hashFrom unitsAt among knownCode widthOf sizedAt unsizedAt tableAt valuesAt singleOf gistAt turnAt stepFrom walkFrom walkOf opening step ended outcome wordsFrom
 all-samples =
-    refl and a-body _ _ _ _ refl refl and refl and a-body _ _ _ _ refl refl and refl and refl and refl and a-body _ _ _ _ refl refl and a-body _ _ _ _ refl refl and refl and refl and refl and a-body _ _ _ _ refl refl and refl and refl and refl and a-body _ _ _ _ refl refl and refl and refl and refl and refl and refl and refl and tt {0}
+    refl and a-body _ _ _ _ refl refl and refl and a-body _ _ _ _ refl refl and refl and refl and refl and a-body _ _ _ _ refl refl and a-body _ _ _ _ refl refl and refl and refl and refl and a-body _ _ _ _ refl refl and refl and refl and refl and refl and a-body _ _ _ _ refl refl and refl and refl and refl and refl and refl and refl and tt {0}

@@ -2,3 +2,4 @@
 pub mod Samples
 pub mod Packed
 pub mod Bodies
+pub mod Words

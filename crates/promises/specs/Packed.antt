@@ -3,15 +3,12 @@ use mathlib.Core.List.{List, [], _∷_, _++_}
 use Prim.Native.Nat.{ℕ, _/_, _%_, _^_, _<_}
 use lib.Dec.{eqb}
 use lib.ListN.{getD, replicate}
-use Rattle.cursor.specs.Answer.{pick}
-use Rattle.cursor.specs.declared.Counted.{Counted}
-use Rattle.cursor.specs.declared.Counted.the-variants as C
+use Rattle.cursor.specs.Answer.{Result, gives, refuses, pick}
 
 -- "Answer: refused 1 bit, number 7, 16 zeros, place or count 40": as include/doortumble.h takes the word apart
 -- (doortumble_refused, doortumble_number, doortumble_place, doortumble_count)
-abbrev pub unpackedOf : ℕ → Counted
-unpackedOf word =
-    pick (eqb (word / 2 ^ 63) 1) (C.Refused (record { number = word / 2 ^ 56 % 2 ^ 7; place = word % 2 ^ 40 })) (C.Count (word % 2 ^ 40))
+abbrev pub unpackedOf : ℕ → Result ℕ
+unpackedOf word = pick (eqb (word / 2 ^ 63) 1) (refuses (word / 2 ^ 56 % 2 ^ 7) (word % 2 ^ 40)) (gives (word % 2 ^ 40))
 
 -- each is a byte (past the end `getD` gives 0). So it is in every slice of bytes, and the checker knows it of each; the definitions go over
 -- lists of any numbers, so that a theorem over them has to say it

@@ -1,13 +1,12 @@
--- Document 01's sample streams that are to be proved (marked P there), as one list. Offset names; start 0 and whole length unless said.
+-- Document 01's sample streams that are to be proved (marked P there), as one list, and one with an inline name. Offset names; start 0 and
+-- whole length unless said.
 use mathlib.Core.Path.{_≡_}
 use mathlib.Core.Bool.{Bool, true, false}
 use mathlib.Core.List.{List, [], _∷_}
 use Prim.Native.Nat.{ℕ}
 use lib.ListN.{length}
-use Rattle.cursor.specs.Answer.{Answer, given, refused, Maybe, just, nothing}
+use Rattle.cursor.specs.Answer.{Answer, given, refused, Result, gives, refuses, Maybe, just, nothing}
 use Rattle.cursor.specs.Text.{unitsOf}
-use Rattle.cursor.specs.declared.Counted.{Counted}
-use Rattle.cursor.specs.declared.Counted.the-variants as C
 use Rattle.name.specs.Hash.{hashOf}
 use Rattle.value.specs.declared.Value.{Value}
 use Rattle.tokens.specs.Instance.{valueStep}
@@ -25,16 +24,21 @@ pub record Stream : Type 0 where
   pub start : ℕ
   pub len : ℕ
   pub dependencies : Bool
+  pub inline : Bool
 
 abbrev pub whole : List ℕ → Stream
-whole s = record { bytes = s; start = 0; len = length s; dependencies = false }
+whole s = record { bytes = s; start = 0; len = length s; dependencies = false; inline = false }
 
 -- "With dependency"
 abbrev pub withDependency : List ℕ → Stream
-withDependency s = record { bytes = s; start = 0; len = length s; dependencies = true }
+withDependency s = record { bytes = s; start = 0; len = length s; dependencies = true; inline = false }
+
+-- names inline
+abbrev pub withInline : List ℕ → Stream
+withInline s = record { bytes = s; start = 0; len = length s; dependencies = false; inline = true }
 
 abbrev pub walkOn : Stream → Walked
-walkOn x = walkOf (x .bytes) (x .start) (x .len) (record { dependencies = x .dependencies; inline = false })
+walkOn x = walkOf (x .bytes) (x .start) (x .len) (record { dependencies = x .dependencies; inline = x .inline })
 
 -- what a walk gives: its sheet's words, or its refusal
 pub data Given : Type 0 where
@@ -66,7 +70,7 @@ pub data Sample : Type 0 where
   -- read, with its sheet, or refused
   reads : Stream → Given → Sample
   -- "as a body": the lent table, the answer, and what is left of the table
-  bodies : Stream → List ℕ → Counted → List ℕ → Sample
+  bodies : Stream → List ℕ → Result ℕ → List ℕ → Sample
   -- "value at", "walk at"
   values : Stream → ℕ → ℕ → Sample
   -- "hash": of the units of these bytes
@@ -85,9 +89,6 @@ abbrev pub All : List Sample → Type 0
 All [] = Unit {0}
 All (x ∷ l) = Holds x × All l
 
-abbrev refusedBody : ℕ → ℕ → Counted
-refusedBody k p = C.Refused (record { number = k; place = p })
-
 -- `01 00000000 00020000 03 00`
 abbrev pub emptyElement : List ℕ
 emptyElement = 0x01 ∷ 0 ∷ 0 ∷ 0 ∷ 0 ∷ 0 ∷ 2 ∷ 0 ∷ 0 ∷ 0x03 ∷ 0 ∷ []
@@ -105,30 +106,32 @@ unfoldable pub samples : List Sample
 samples =
     -- "empty, length 0: read; as a body 15 at 0"
     reads (whole []) (words []) ∷
-    bodies (whole []) (9 ∷ []) (refusedBody 15 0) (9 ∷ []) ∷
+    bodies (whole []) (9 ∷ []) (refuses 15 0) (9 ∷ []) ∷
     -- "empty, length 1: 3 at 0"
-    reads (record { bytes = []; start = 0; len = 1; dependencies = false }) (stopped 3 0) ∷
-    bodies (record { bytes = []; start = 0; len = 1; dependencies = false }) (9 ∷ []) (refusedBody 3 0) (9 ∷ []) ∷
+    reads (record { bytes = []; start = 0; len = 1; dependencies = false; inline = false }) (stopped 3 0) ∷
+    bodies (record { bytes = []; start = 0; len = 1; dependencies = false; inline = false }) (9 ∷ []) (refuses 3 0) (9 ∷ []) ∷
     -- "empty, start 1: 2 at 1"
-    reads (record { bytes = []; start = 1; len = 0; dependencies = false }) (stopped 2 1) ∷
+    reads (record { bytes = []; start = 1; len = 0; dependencies = false; inline = false }) (stopped 2 1) ∷
     -- "`10`: 9 at 1"
     reads (whole (0x10 ∷ [])) (stopped 9 1) ∷
     -- "sheet 2000000024000000, 4000480004000000; owners 0, 1": and a word past them stays; with one word lent, 16 with two needed
     reads (whole emptyElement) (words (0x2000000024000000 ∷ 0x4000480004000000 ∷ [])) ∷
-    bodies (whole emptyElement) (9 ∷ 9 ∷ 9 ∷ []) (C.Count 2) (0 ∷ 1 ∷ 9 ∷ []) ∷
-    bodies (whole emptyElement) (9 ∷ []) (refusedBody 16 2) (9 ∷ []) ∷
+    bodies (whole emptyElement) (9 ∷ 9 ∷ 9 ∷ []) (gives 2) (0 ∷ 1 ∷ 9 ∷ []) ∷
+    bodies (whole emptyElement) (9 ∷ []) (refuses 16 2) (9 ∷ []) ∷
     -- "With dependency and `FFFF` after 01: flag 0, number 0; with `0000`: flag 1."
     reads (withDependency (0x01 ∷ 0xFF ∷ 0xFF ∷ 0 ∷ 0 ∷ 0 ∷ 0 ∷ 0 ∷ 2 ∷ 0 ∷ 0 ∷ 0x03 ∷ 0 ∷ [])) (words (0x200000002C000000 ∷ 0x4000580004000000 ∷ [])) ∷
     reads (withDependency (0x01 ∷ 0 ∷ 0 ∷ 0 ∷ 0 ∷ 0 ∷ 0 ∷ 0 ∷ 2 ∷ 0 ∷ 0 ∷ 0x03 ∷ 0 ∷ [])) (words (0x200000002C000200 ∷ 0x4000580004000000 ∷ [])) ∷
     -- "read; as a body 13 at 0"
     reads (whole loneValue) (words (0x6000000020000000 ∷ [])) ∷
-    bodies (whole loneValue) (9 ∷ []) (refusedBody 13 0) (9 ∷ []) ∷
+    bodies (whole loneValue) (9 ∷ []) (refuses 13 0) (9 ∷ []) ∷
     -- "inline `41 00` `42 00`: hash 1041"
     hashes (0x41 ∷ 0 ∷ 0x42 ∷ 0 ∷ []) 0x1041 ∷
+    -- and the attribute that has this name: `06 4110 0200 4100 4200 0000`, read with names inline
+    reads (withInline (0x06 ∷ 0x41 ∷ 0x10 ∷ 2 ∷ 0 ∷ 0x41 ∷ 0 ∷ 0x42 ∷ 0 ∷ 0 ∷ 0 ∷ [])) (words (0x700000002C000000 ∷ [])) ∷
     -- "value at 18, walk at 22"; as a body it has no owner
     reads (whole (anInstance 2 0x08 (0x2A ∷ 0 ∷ 0 ∷ 0 ∷ []))) (words (0x1000000058000000 ∷ [])) ∷
     values (whole (anInstance 2 0x08 (0x2A ∷ 0 ∷ 0 ∷ 0 ∷ []))) 18 22 ∷
-    bodies (whole (anInstance 2 0x08 (0x2A ∷ 0 ∷ 0 ∷ 0 ∷ []))) (9 ∷ []) (C.Count 1) (0 ∷ []) ∷
+    bodies (whole (anInstance 2 0x08 (0x2A ∷ 0 ∷ 0 ∷ 0 ∷ []))) (9 ∷ []) (gives 1) (0 ∷ []) ∷
     -- "Size 6: 24 bytes suffice; with 23, 2 at 24."
     reads (whole (anInstance 6 0x08 (0x2A ∷ 0 ∷ 0 ∷ 0 ∷ 0 ∷ 0 ∷ []))) (words (0x1000000060000000 ∷ [])) ∷
     reads (whole (anInstance 6 0x08 (0x2A ∷ 0 ∷ 0 ∷ 0 ∷ 0 ∷ []))) (stopped 2 24) ∷

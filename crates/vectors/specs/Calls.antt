@@ -11,7 +11,6 @@ use Rattle.cursor.specs.Reads.{numberAt, numberOf, setTo, takeAt, partOf, sidAt
 use Rattle.cursor.specs.Text.{unitsOf, countedAt, prefixedAt, zeroEndedAt}
 use Rattle.cursor.specs.declared.Part.{Part}
 use Rattle.cursor.specs.declared.View.{View}
-use Rattle.cursor.specs.declared.Counted.the-variants as C
 use Rattle.name.specs.Hash.{hashOf}
 use Rattle.value.specs.Kinds.{knownCode, widthOf, elementWidthOf}
 use Rattle.value.specs.Scalar.{decodedOf, decoded}
@@ -102,10 +101,10 @@ pub record Calls : Type 0 where
   -- `decode`: the sign; a 10 of four bytes is a number
   pub sign : decodedOf 0x03 (0xFF ∷ []) ≡ decoded 0xFF (Signed (negsuc 0))
   pub decode : decodedOf 0x10 (7 ∷ 0 ∷ 0 ∷ 0 ∷ []) ≡ decoded 7 (Unsigned 7)
-  -- `tokens::count`: the end byte is no token
-  pub tokens : countedOf (walkOn (whole emptyElement)) ≡ C.Count 2
+  -- `sheet::count`: the end byte is no token
+  pub tokens : countedOf (walkOn (whole emptyElement)) ≡ gives 2
   -- `tokens::step`: the last token may run over; the header after a token is no part of it; 7 after the code
-  pub last : countedOf (walkOf emptyElement 0 1 plainly) ≡ C.Count 1
+  pub last : countedOf (walkOf emptyElement 0 1 plainly) ≡ gives 1
   pub before-header : walkText (0x02 ∷ 0x0F ∷ 1 ∷ 1 ∷ 0 ∷ 0x04 ∷ []) 0 6 plainly ≡ ascii "0 1 3\n5 1 5\nok 2\n"
   pub unknown-type : walkText (0x0D ∷ 0 ∷ 0 ∷ 0x16 ∷ []) 0 4 plainly ≡ ascii "refused 7 4\n"
   -- `Values::of`: the values begin where the instance says, not at their descriptors
@@ -133,12 +132,12 @@ pub record Calls : Type 0 where
   pub start : startOf true .place ≡ P.At 512
   -- `resync_after`, `list`: the chunk's refusal; nothing is written
   pub resync : ResyncAfter three 0 (R.Refused (refusalOf 1 0))
-  pub list : Lists three (startOf true) (9 ∷ []) (9 ∷ []) (C.Refused (refusalOf 1 0))
+  pub list : Lists three (startOf true) (9 ∷ []) (9 ∷ []) (refuses 1 0)
   -- five words an answer: 16 with the words needed
-  pub rows : RowsAnswer (I.Live (recordAt7 512) ∷ I.Live (recordAt7 540) ∷ []) (replicate 9 0) (replicate 9 0) (C.Refused (refusalOf 16 10))
+  pub rows : RowsAnswer (I.Live (recordAt7 512) ∷ I.Live (recordAt7 540) ∷ []) (replicate 9 0) (replicate 9 0) (refuses 16 10)
   -- the C calls' answer word: a count as it is; a refusal's number and place
-  pub counts : packedOf (C.Count 2) ≡ 2
-  pub refuses : packedOf (C.Refused (refusalOf 9 1)) ≡ 0x8900000000000001
+  pub counts : packedOf (gives 2) ≡ 2
+  pub refusing : packedOf (refuses 9 1) ≡ 0x8900000000000001
   -- `doortumble_bench_checksum`
   pub said : saidOf (refused 1 0) ≡ 2
   -- `byte`, `text`: behind what is there, as far as there is room
@@ -174,9 +173,9 @@ pub record Calls : Type 0 where
   -- `stream_answers::single`
   pub single-lines : singleLines (0x0C ∷ []) 1 ≡ ascii "single 1\nends yes\n"
   -- `stream_answers::owners`: as many words as tokens
-  pub owners-line : ownersText (C.Count 2) (0 ∷ 1 ∷ 9 ∷ []) ≡ ascii "owners 0 1\n"
+  pub owners-line : ownersText (gives 2) (0 ∷ 1 ∷ 9 ∷ []) ≡ ascii "owners 0 1\n"
   -- `stream_answers::sheet_call`, `owners_call`: the answer's word, and all words that were lent
   pub sheet-call : sheetText (walkOn (whole emptyElement)) (9 ∷ []) ≡ ascii "answer 9000000000000002\nwords 0000000000000009\n"
-  pub owners-call : answerText (packedOf (C.Count 2)) ++ tableText (0 ∷ 1 ∷ 9 ∷ []) ≡ ascii "answer 0000000000000002\nwords 00000000 00000001 00000009\n"
+  pub owners-call : answerText (packedOf (gives 2)) ++ tableText (0 ∷ 1 ∷ 9 ∷ []) ≡ ascii "answer 0000000000000002\nwords 00000000 00000001 00000009\n"
   -- `listing_text::put`
   pub listing : listingOf (I.Live (recordAt7 512) ∷ I.Refused (refusalOf 4 600) ∷ []) ≡ ascii "item offset size id\nlive 512 28 7\nrefused 600 4 0\ndone 1 0 1\n"
