@@ -142,7 +142,7 @@ run-higher t o l m h (next k v r) = next (higher m h k) v (run-higher t o l m h 
 pub higher-reading : (l m : ℕ) (t o : List ℕ) → l ≤ m → Reading wide l t o → Reading wide m t o
 higher-reading l m t o h r = record { each = r .each; body = run-body t o m (run-higher t o l m h (body-run t o l (r .body) refl)) }
 
--- "An accepted body has one reading only": any two owner tables of the same tokens are equal, whatever the limits
+-- A body has one reading only: any two owner tables of the same tokens are equal, whatever the limits
 pub one-table : (l m : ℕ) (t o p : List ℕ) → Reading wide l t o → Reading wide m t p → o ≡ p
 one-table l m t o p r q =
     sym (body-read (l + m) t o (higher-reading l (l + m) t o (omega arith) r) .1) ∙ body-read (l + m) t p (higher-reading m (l + m) t p (omega arith) q) .1

@@ -1,7 +1,7 @@
 -- The grammar of an event body, and its owner table. Document 01, "Grammar".
 --
 -- Tokens go by their numbers, from 0 on: the span from i to j is the tokens i, i + 1, .. up to but not j. `suc i` is i + 1. A token's word in
--- the table is its owner's number plus 1, or 0 for none; so the word `suc i` says "owned by token i". Of a token the grammar sees its mark
+-- the table is its owner's number plus 1, or 0 for none; so the word `suc i` says that token i owns it. Of a token the grammar sees its mark
 -- (sheet/specs, `kindsOf`).
 use mathlib.Core.Path.{_≡_}
 use mathlib.Core.Bool.{Bool}
@@ -58,7 +58,7 @@ module _ (marks words : List ℕ) where
   module _ (rule : Rule) (limit : ℕ) where
     mutual
       -- "An element is an open token, any attributes, then either close empty, or close start, content, close element": from i to j, at a
-      -- level, and its open token has the word w. "its close tokens" "belong to its open token"
+      -- level, and its open token has the word w. "its close tokens and child opens too, belongs to its open token"
       pub data Element : ℕ → ℕ → ℕ → ℕ → Type 0 where
         empty : {level w i a : ℕ} → level ≤ limit → Tag rule w i a → Stands a closeEmptyKind (suc i) → Element level w i (suc a)
         full : {level w i a c : ℕ} → level ≤ limit → Tag rule w i a → Stands a closeStartKind (suc i) → Content level (suc i) (suc a) c

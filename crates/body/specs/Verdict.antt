@@ -14,7 +14,7 @@ use Rattle.tokens.specs.declared.Token.{Token}
 use Rattle.sheet.specs.Sheet.{kindsOf}
 use Rattle.body.specs.Grammar.{kindOf, Rule, wide, Reading}
 
--- "nested at most 64 elements deep"
+-- "levels limited to 64"
 abbrev pub deepest : ℕ
 deepest = 64
 
