@@ -104,7 +104,10 @@ fn real_cases() {
     };
     let counts = cases::real::each(&log, put).expect("memory takes all");
     let counts = counts.to_string();
-    assert!(counts.starts_with("chunks 1 live 7 carved 1 "), "{counts}");
+    assert!(
+        counts.starts_with("chunks 1 unused 0 live 7 carved 1 "),
+        "{counts}"
+    );
     let mut out = Vec::new();
     batch::run_held(&mut &batch[..], &mut out).expect("memory takes all");
     let held = String::from_utf8(out).expect("answers are text");

@@ -24,6 +24,8 @@ const OWNER_CALL: u8 = 4;
 #[derive(Default)]
 pub struct Counts {
     chunks: usize,
+    /// Places of chunks that document 01 refuses: mostly never used.
+    unused: usize,
     live: usize,
     carved: usize,
     inner_streams: usize,
@@ -38,6 +40,7 @@ impl fmt::Display for Counts {
     fn fmt(&self, f: &mut fmt::Formatter<'_>) -> fmt::Result {
         let Counts {
             chunks,
+            unused,
             live,
             carved,
             inner_streams,
@@ -48,7 +51,7 @@ impl fmt::Display for Counts {
         } = self;
         write!(
             f,
-            "chunks {chunks} live {live} carved {carved} inner-streams {inner_streams} definitions {definitions} \
+            "chunks {chunks} unused {unused} live {live} carved {carved} inner-streams {inner_streams} definitions {definitions} \
              inner-definitions {inner_definitions} refused-definitions {refused} records-of-these {lost}"
         )
     }
@@ -62,7 +65,10 @@ pub fn each<E>(log: &[u8], mut put: impl FnMut(Case) -> Result<(), E>) -> Result
         .unwrap_or_default()
         .chunks(CHUNK_SIZE)
     {
-        counts.chunks += 1;
+        match Chunk::new(chunk) {
+            Ok(_) => counts.chunks += 1,
+            Err(_) => counts.unused += 1,
+        }
         for case in of_chunk(chunk, &mut counts) {
             put(case)?;
         }
