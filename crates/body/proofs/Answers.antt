@@ -10,9 +10,6 @@ use lib.Dec.{leb}
 use lib.ListN.{length, take, length-take}
 use Rattle.cursor.specs.Answer.{Result, gives, refuses, pick}
 use Rattle.cursor.specs.Refusals.{noRoom}
-use Rattle.cursor.specs.declared.Counted.{Counted}
-use Rattle.cursor.specs.declared.Counted.the-variants as C
-use Rattle.cursor.specs.declared.Refusal.{Refusal}
 use Rattle.tokens.specs.Walk.{Walked, ok, bad, countedOf, walkAt}
 use Rattle.tokens.specs.declared.Flags.{Flags}
 use Rattle.tokens.specs.declared.Token.{Token}
@@ -37,14 +34,12 @@ pub walk-bad : (w : Walked) (lent : List ℕ) (k p : ℕ) → w ≡ bad k p → 
 walk-bad w lent k p e =
     record { verdict = refuses k p; judged = subst (λ (v : Walked). Judged v (refuses k p)) (sym e) (unread k p); answer = refl; table = refl }
 
-pub walk-refused : (w : Walked) (lent : List ℕ) (r : Refusal) → countedOf w ≡ C.Refused r → Answered lent lent w (refuses (r .number) (r .place))
-walk-refused (ok l) lent r e = let z : _≡_ {A = ℕ} 0 1 = cc in absurd (omega arith)
-walk-refused (bad k p) lent r e =
-    let y : record { number = k; place = p } ≡ r = cc in
-    subst (λ (x : Refusal). Answered lent lent (bad k p) (refuses (x .number) (x .place))) y (walk-bad (bad k p) lent k p refl)
+pub walk-refused : (w : Walked) (lent : List ℕ) (k p : ℕ) → countedOf w ≡ refuses k p → Answered lent lent w (refuses k p)
+walk-refused (ok l) lent k p e = let z : _≡_ {A = ℕ} 0 1 = cc in absurd (omega arith)
+walk-refused (bad m q) lent k p e = subst (Answered lent lent (bad m q)) e (walk-bad (bad m q) lent m q refl)
 
 -- a buffer for few tokens has a place for each
-pub has-places : (s : List ℕ) (end : ℕ) (f : Flags) (start n m : ℕ) → countedOf (walkAt s end f start) ≡ C.Count n → Few s start end m → n ≤ m
+pub has-places : (s : List ℕ) (end : ℕ) (f : Flags) (start n m : ℕ) → countedOf (walkAt s end f start) ≡ gives n → Few s start end m → n ≤ m
 has-places s end f start n m c h =
     let y = few-tokens s end f start n c in
     ⊎-elim (λ l. omega (arith, y .0)) (λ l. omega (arith, y .1)) h

@@ -1,31 +1,34 @@
--- `owners` meets its contract. Assumes nothing.
-use mathlib.Core.Path.{sym, subst}
-use native.Mathlib.Omega.{arith}
+-- `owners` meets its contract: the walk from its window. Assumes nothing.
+use mathlib.Core.Path.{refl, sym, ap, subst, _∙_}
 use borrow.Author.Needs.{needs}
-use Rattle.tokens.specs.Walk.{Walked}
-use Rattle.sheet.proofs.Laying.{walk-within, too-long, beyond}
+use Rattle.cursor.specs.Answer.{refuses}
 use Rattle.cursor.specs.Answers.{countAnswer}
+use Rattle.tokens.specs.Walk.{Walked, bad, windowAnswer}
+use Rattle.tokens.proofs.Steps.{walk-window, window-bounded}
 use Rattle.body.specs.Verdict.{Answered}
 use Rattle.body.proofs.Answers.{walk-bad}
 use Rattle.body.proofs.owners.Statement.{statement}
 use Rattle.body.proofs.owners.Tie as tie
 
+chosen-requires : tie.Need-chosen-requires
+chosen-requires c κs =
+    let a = c .before .before .before .before .before .before .before .args in
+    window-bounded (a .s .now) (a .start) (a .length) _ (sym (ap windowAnswer (c .before .before .from .given .1)) ∙ c .before .before .before .before .window-of .ensures)
+
 returns : tie.Need-returns
 returns c =
-    let a = c .before .before .before .args in
-    walk-bad _ (a .table .now) _ _ (too-long (a .s .now) (a .start) (a .length) (a .flags) (c .if1 .taken))
+    let a = c .before .before .before .before .before .before .before .before .before .before .args in
+    let r = c .before .before .chosen in
+    let e = sym (ap windowAnswer (c .before .before .before .before .before .from .given .1)) ∙ c .before .before .before .before .before .before .before .window-of .ensures in
+    subst (λ (w : Walked). Answered (a .table .now) (r .last .1 .1 .1 .1 .0) w (countAnswer (r .result)))
+    (walk-window (a .s .now) (a .start) (a .length) (a .flags) _ e) (r .ensures)
 
 returns-2 : tie.Need-returns-2
 returns-2 c =
-    let a = c .before .before .before .before .args in
-    walk-bad _ (a .table .now) _ _ (beyond (a .s .now) (a .start) (a .length) (a .flags) (c .before .if1 .left) (c .if2 .taken))
-
-returns-3 : tie.Need-returns-3
-returns-3 c =
-    let a = c .before .before .before .before .before .before .before .before .args in
-    let r = c .before .before .chosen in
-    subst (λ (w : Walked). Answered (a .table .now) (r .last .1 .1 .1 .1 .0) w (countAnswer (r .result)))
-    (sym (walk-within (a .s .now) (a .start) (a .length) (a .flags) (omega arith) (omega arith))) (r .ensures)
+    let a = c .before .before .before .before .before .before .args in
+    let e = sym (ap windowAnswer (c .before .r .given .1)) ∙ c .before .before .before .window-of .ensures in
+    let r = c .before .r .given .0 .0 in
+    subst (λ (w : Walked). Answered (a .table .now) (a .table .now) w (refuses (r .number) (r .place))) (walk-window (a .s .now) (a .start) (a .length) (a .flags) _ e) (walk-bad (bad (r .number) (r .place)) (a .table .now) (r .number) (r .place) refl)
 
 pub owners-spec : {M : Type 1} → statement M
-owners-spec = tie.close (tie.spec returns returns-2 (λ c. search needs) (λ c κs. search needs) (λ c. search needs) returns-3)
+owners-spec = tie.close (tie.spec (λ c κs. search needs) (λ c. search needs) chosen-requires (λ c. search needs) (λ c. search needs) returns returns-2)
