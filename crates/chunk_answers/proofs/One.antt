@@ -2,22 +2,19 @@
 use mathlib.Core.Path.{_≡_, sym, ap, _∙_}
 use mathlib.Core.Bool.{Bool, true, false}
 use mathlib.Core.List.{List, [], _++_}
-use Prim.Native.Nat.{ℕ, _+_}
+use Prim.Native.Nat.{ℕ}
 use lib.Dec.{ltb}
 use lib.ListN.{length, drop}
 use Rattle.cursor.specs.Answer.{Answer, given, refused}
 use Rattle.record.specs.Chunk.{fieldsAt}
 use Rattle.record.specs.Record.{recordAt}
 use Rattle.record.specs.declared.Fields.{Fields}
-use Rattle.chunk.specs.Allowed.{resyncable}
-use Rattle.chunk.specs.Walk.{Choose, startOf, resyncOn}
+use Rattle.chunk.specs.Walk.{Choose, startOf}
 use Rattle.chunk.specs.declared.Walk.{Walk}
 use Rattle.chunk.specs.declared.Item.{Item}
 use Rattle.chunk.specs.declared.Stepped.{Stepped}
 use Rattle.chunk.specs.declared.Resync.{Resync}
-use Rattle.chunk.specs.declared.Resync.the-variants as R
-use Rattle.chunk.proofs.Leasts.{one}
-use Rattle.chunk.proofs.OneStep.{step-one}
+use Rattle.chunk.proofs.OneStep.{step-one, resync-one}
 use Rattle.chunk.proofs.Counting.{runs-one}
 use Rattle.print.specs.Text.{ascii}
 use Rattle.chunk_answers.specs.Item.{itemLine}
@@ -26,17 +23,9 @@ use Rattle.chunk_answers.specs.Walk.{itemLines, walkOn, WalkText}
 use Rattle.chunk_answers.specs.Step.{stateAt, stateLine, StepLines, StepText}
 
 -- mode R
-resync-one : (s : List ℕ) (p : ℕ) (x y : Resync) (f : Answer Fields) → resyncOn s p x f → resyncOn s p y f → x ≡ y
-resync-one s p (R.Answered a) (R.Answered b) (given h n) u v = ap R.Answered (one (resyncable s h) (p + 1) a b u v)
-resync-one s p (R.Answered a) y (refused k c) u v = absurd u
-resync-one s p (R.Answered a) (R.Refused b) (given h n) u v = absurd v
-resync-one s p (R.Refused a) y (given h n) u v = absurd u
-resync-one s p (R.Refused a) (R.Answered b) (refused k c) u v = absurd v
-resync-one s p (R.Refused a) (R.Refused b) (refused k c) u v = ap R.Refused (u ∙ sym v)
-
 pub record-one : (s : List ℕ) (start : ℕ) (strict : Bool) (t u : List ℕ) → RecordText s start strict t → RecordText s start strict u → t ≡ u
 record-one s start strict t u h k =
-    let e = resync-one s start (h .resync) (k .resync) (fieldsAt s) (h .after) (k .after) in
+    let e = resync-one s start (h .resync) (k .resync) (h .after) (k .after) in
     h .is ∙ ap (λ (r : Resync). recordLine s (recordAt s start strict) ++ resyncLine r) e ∙ sym (k .is)
 
 -- mode W

@@ -14,7 +14,7 @@ use Rattle.record.specs.Record.{recordAt}
 use Rattle.record.specs.declared.Fields.{Fields}
 use Rattle.record.specs.declared.FieldsRead.the-variants as F
 use Rattle.record.specs.declared.Header.{Header}
-use Rattle.chunk.specs.Walk.{Steps, ResyncAfter}
+use Rattle.chunk.specs.Walk.{Steps, resyncAnswer, ResyncAfter}
 use Rattle.chunk.specs.declared.Place.{Place}
 use Rattle.chunk.specs.declared.Walk.{Walk}
 use Rattle.chunk.specs.declared.Stepped.{Stepped}
@@ -37,7 +37,7 @@ header-read s h f e strings templates k =
     ∙ ap (headerOn s) g
 
 -- mode R: the record's line and the resync line, and the record's line alone
-module _ (s : List ℕ) (start : ℕ) (strict : Bool) {lent left : List ℕ} {at end : ℕ} (resync : Resync) (after : ResyncAfter s start resync) where
+module _ (s : List ℕ) (start : ℕ) (strict : Bool) {lent left : List ℕ} {at end : ℕ} (resync : Resync) (after : ResyncAfter s start (resyncAnswer resync)) where
   pub with-resync : Puts (recordLine s (recordAt s start strict) ++ resyncLine resync) lent at left end → PutsSome (RecordText s start strict) lent at left end
   with-resync p =
       record {

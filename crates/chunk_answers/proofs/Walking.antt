@@ -1,72 +1,107 @@
--- The lines of a walk: what holds after each step. Assumes nothing.
+-- The lines of rows: what holds after each. Assumes nothing.
 use mathlib.Core.Path.{_≡_, refl, sym, ap, subst, _∙_}
 use mathlib.Core.Bool.{Bool}
-use mathlib.Core.List.{List, [], _∷_, _++_, append-nil, append-assoc}
-use Prim.Native.Nat.{ℕ}
-use lib.ListN.{length}
+use mathlib.Core.List.{List, [], _∷_, _++_}
+use Prim.Native.Nat.{ℕ, _+_, _*_, _≤_, _<_}
+use native.Mathlib.Omega.{arith}
+use borrow.Author.Tests.{ne-eqb}
+use lib.ListN.{length, getD, take, drop}
 use Rattle.cursor.specs.Answers.{refusal}
 use Rattle.cursor.specs.declared.Refusal.{Refusal}
 use Rattle.record.specs.Chunk.{fieldsAt}
-use Rattle.chunk.specs.Walk.{Steps, startOf}
-use Rattle.chunk.specs.Listing.{Runs}
-use Rattle.chunk.specs.declared.Walk.{Walk}
+use Rattle.record.specs.declared.Record.{Record}
+use Rattle.chunk.specs.Listing.{rowOf, rowsOf, wordsOf, firstRow}
 use Rattle.chunk.specs.declared.Item.{Item}
 use Rattle.chunk.specs.declared.Item.the-variants as I
-use Rattle.chunk.specs.declared.Stepped.{Stepped}
-use Rattle.chunk.proofs.Order.{Ordered}
-use Rattle.chunk.proofs.Whole.{start-ordered}
-use Rattle.chunk.proofs.Counting.{ordered-on, runs-none, runs-more}
-use Rattle.print.specs.Text.{ascii, Puts, PutsSome, each, refusedOf}
+use Rattle.chunk.specs.declared.Row.{Row}
+use Rattle.chunk.proofs.Laying.{Passed, next-row, all-passed}
+use Rattle.chunk.proofs.AllRows.{AllRows}
+use Rattle.print.specs.Text.{ascii, lineOf, Puts, PutsSome, each, refusedOf}
 use Rattle.print.proofs.Putting.{_▸_, put-none, put-as, each-more}
-use Rattle.chunk_answers.specs.Item.{itemLine}
-use Rattle.chunk_answers.specs.Walk.{itemLines, Walked, walkOn, WalkText, HasHeader}
+use Rattle.chunk_answers.specs.Item.{recordNumbers, itemLine}
+use Rattle.chunk_answers.specs.Walk.{itemLines, walkOn, WalkText}
+use Rattle.chunk_answers.specs.Lines.{rowRecord, lineBy, rowLine, RowsPut}
 
--- the state w is reached, and the lines of the answers on the way are put
-pub record Going (s : List ℕ) (first : Walk) (lent : List ℕ) (at : ℕ) (w : Walk) (out : List ℕ) (end : ℕ) : Type 0 where
-  pub ordered : Ordered w
+-- a row's line is that of the answer that it is of
+pub row-line : (s : List ℕ) (x : Item) → rowLine s (rowOf x) ≡ itemLine s x
+row-line s (I.Live r) = refl
+row-line s (I.Carved r) = refl
+row-line s (I.Refused r) = refl
+row-line s I.Done = refl
+
+-- the line of a row, by its item
+module _ (s row : List ℕ) (item : ℕ) where
+  pub live-row : (r : Record) (ns : List ℕ) → item ≡ 1 → r ≡ rowRecord row → ns ≡ recordNumbers s r → lineOf (ascii "live") ns ≡ lineBy s item row
+  live-row r ns e f n =
+      ap (lineOf (ascii "live")) (n ∙ ap (recordNumbers s) f)
+      ∙ subst (λ (k : ℕ). lineOf (ascii "live") (recordNumbers s (rowRecord row)) ≡ lineBy s k row) (sym e) refl
+
+  pub carved-row : (r : Record) (ns : List ℕ) → item ≡ 2 → r ≡ rowRecord row → ns ≡ recordNumbers s r → lineOf (ascii "carved") ns ≡ lineBy s item row
+  carved-row r ns e f n =
+      ap (lineOf (ascii "carved")) (n ∙ ap (recordNumbers s) f)
+      ∙ subst (λ (k : ℕ). lineOf (ascii "carved") (recordNumbers s (rowRecord row)) ≡ lineBy s k row) (sym e) refl
+
+  pub refused-row : item ≡ 3 → lineOf (ascii "refused") (getD row 2 0 ∷ getD row 1 0 ∷ []) ≡ lineBy s item row
+  refused-row e = subst (λ (k : ℕ). lineOf (ascii "refused") (getD row 2 0 ∷ getD row 1 0 ∷ []) ≡ lineBy s k row) (sym e) refl
+
+  pub last-row : (item ≡ 1 → ⊥) → (item ≡ 2 → ⊥) → (item ≡ 3 → ⊥) → ascii "done\n" ≡ lineBy s item row
+  last-row a b c = rw (ne-eqb item 1 a, ne-eqb item 2 b, ne-eqb item 3 c) refl
+
+-- the lines of the answers whose rows are passed are put
+pub record LinesPut (s : List ℕ) (items : List Item) (lent : List ℕ) (at : ℕ) (out : List ℕ) (end i : ℕ) : Type 0 where
+  pub passed : Passed items i
+  pub puts : Puts (itemLines s (passed .done)) lent at out end
+
+-- what holds before each row
+pub record Going (s rows lent : List ℕ) (at : ℕ) (out : List ℕ) (end i : ℕ) : Type 0 where
+  pub within : i ≤ length rows
   pub kept : length out ≡ length lent
-  pub done : List Item
-  pub back : (items : List Item) → Runs s w items → Runs s first (done ++ items)
-  pub puts : Puts (itemLines s done) lent at out end
+  pub lines : (items : List Item) → rows ≡ rowsOf items → LinesPut s items lent at out end i
 
-pub going-start : (s : List ℕ) (recover : Bool) (lent : List ℕ) (at : ℕ) → Going s (startOf recover) lent at (startOf recover) lent at
+pub going-start : (s rows lent : List ℕ) (at : ℕ) → Going s rows lent at lent at 0
 unfolding each
-going-start s recover lent at =
-    record { ordered = start-ordered recover; kept = refl; done = []; back = λ items r. r; puts = put-none }
+going-start s rows lent at =
+    record { within = omega arith; kept = refl; lines = λ items e. record { passed = record { done = []; rest = items; all = refl; at = refl }; puts = put-none } }
 
-module _ (s : List ℕ) (header : HasHeader s) {first : Walk} {lent : List ℕ} {at : ℕ} {w : Walk} {out : List ℕ} {end : ℕ}
-    (g : Going s first lent at w out end) (x : Stepped) (t : Steps s w x) {next : List ℕ} {m : ℕ}
-    (p : Puts (itemLine s (x .item)) out end next m) where
-  pub going-next : (x .item ≡ I.Done → ⊥) → length next ≡ length out → Going s first lent at (x .state) next m
-  going-next d k =
-      let i = x .item in
+module _ (s rows lent : List ℕ) (at : ℕ) {out : List ℕ} {end i : ℕ} (g : Going s rows lent at out end i) where
+  -- one row more
+  pub going-next : (row : Row) (next : List ℕ) (m : ℕ) → i + 5 ≤ length rows → wordsOf row ≡ firstRow (drop i rows) → length next ≡ length out
+      → Puts (rowLine s (wordsOf row)) out end next m → Going s rows lent at next m (i + 5)
+  going-next row next m h w k p =
       record {
-        ordered = ordered-on s (header .0) (header .1) w x (g .ordered) t;
+        within = h;
         kept = k ∙ g .kept;
-        done = g .done ++ (i ∷ []);
-        back = λ items r. subst (Runs s first) (sym (append-assoc (g .done) (i ∷ []) items)) (g .back (i ∷ items) (runs-more s w x items t d r));
-        puts = put-as (each-more (itemLine s) (g .done) i) (g .puts ▸ p);
+        lines = λ items is.
+            let l = g .lines items is in
+            let n = next-row items i (l .passed) (subst (λ (y : List ℕ). i + 5 ≤ length y) is h) in
+            let x = n .item in
+            let f : wordsOf row ≡ rowOf x = w ∙ ap (λ (y : List ℕ). firstRow (drop i y)) is ∙ n .is in
+            record {
+              passed = n .on;
+              puts =
+                  put-as (each-more (itemLine s) (l .passed .done) x ∙ ap (itemLines s) (sym (n .more)))
+                  (l .puts ▸ put-as (ap (rowLine s) f ∙ row-line s x) p);
+            };
       }
 
--- the last step
-pub going-last : (s : List ℕ) (recover : Bool) {lent : List ℕ} {at : ℕ} {w : Walk} {out : List ℕ} {end : ℕ} → Going s (startOf recover) lent at w out end
-    → (x : Stepped) → Steps s w x → {next : List ℕ} {m : ℕ} → Puts (itemLine s (x .item)) out end next m → x .item ≡ I.Done
-    → PutsSome (Walked s recover) lent at next m
-going-last s recover {w = w} g x t p d =
-    record {
-      text = itemLines s (g .done) ++ itemLine s (x .item);
-      allowed = record {
-        items = g .done;
-        runs = subst (Runs s (startOf recover)) (append-nil (g .done)) (g .back [] (runs-none s w x t d));
-        is = ap (λ (i : Item). itemLines s (g .done) ++ itemLine s i) d;
-      };
-      puts = g .puts ▸ p;
-    }
+  -- no row is left
+  pub going-last : (next : List ℕ) (m : ℕ) → length rows < i + 5 → Puts (ascii "done\n") out end next m → RowsPut s rows lent at next m
+  going-last next m h p items is =
+      let l = g .lines items is in
+      let e = all-passed items i (l .passed) (subst (λ (y : List ℕ). length y < i + 5) is h) in
+      put-as (ap (λ (y : List Item). itemLines s y ++ ascii "done\n") (sym e)) (l .puts ▸ p)
 
--- mode W: a chunk with a header, and one that is refused
+-- mode W: a chunk with a header, whose rows are all there, and one that is refused
 module _ (s : List ℕ) (recover : Bool) {lent left : List ℕ} {at end : ℕ} where
-  pub walk-read : HasHeader s → PutsSome (Walked s recover) lent at left end → PutsSome (WalkText s recover) lent at left end
-  walk-read (h, (n, e)) p = record { text = p .text; allowed = subst (walkOn s recover (p .text)) (sym e) (p .allowed); puts = p .puts }
+  pub walk-read : (rows : List ℕ) (n : ℕ) → AllRows s recover rows n → RowsPut s (take (5 * n) rows) lent at left end
+      → PutsSome (WalkText s recover) lent at left end
+  walk-read rows n w p =
+      let text = itemLines s (w .items) ++ ascii "done\n" in
+      record {
+        text = text;
+        allowed = subst (walkOn s recover text) (sym (w .header)) (record { items = w .items; runs = w .runs; is = refl });
+        puts = p (w .items) (w .rows);
+      }
 
-  pub walk-refused : (r : Refusal) → refusal r ≡ fieldsAt s → Puts (refusedOf r) lent at left end → PutsSome (WalkText s recover) lent at left end
-  walk-refused r e p = record { text = refusedOf r; allowed = subst (walkOn s recover (refusedOf r)) e refl; puts = p }
+  pub walk-refused : (r : Refusal) → fieldsAt s ≡ refusal r → Puts (refusedOf r) lent at left end → PutsSome (WalkText s recover) lent at left end
+  walk-refused r e p = record { text = refusedOf r; allowed = subst (walkOn s recover (refusedOf r)) (sym e) refl; puts = p }

@@ -3,4 +3,5 @@ pub mod Header
 pub mod Item
 pub mod Record
 pub mod Walk
+pub mod Lines
 pub mod Step

@@ -7,7 +7,7 @@ use Rattle.cursor.specs.Answer.{Answer, given, refused}
 use Rattle.record.specs.Answers.{refusalOf}
 use Rattle.record.specs.Record.{recordAt}
 use Rattle.record.specs.declared.Record.{Record}
-use Rattle.chunk.specs.Walk.{ResyncAfter}
+use Rattle.chunk.specs.Walk.{resyncAnswer, ResyncAfter}
 use Rattle.chunk.specs.declared.Found.{Found}
 use Rattle.chunk.specs.declared.Found.the-variants as F
 use Rattle.chunk.specs.declared.Resync.{Resync}
@@ -33,5 +33,5 @@ resyncLine (R.Refused r) = []
 -- the record's line, "Then" the line of "the resync offset after p = start"
 pub record RecordText (s : List ℕ) (start : ℕ) (strict : Bool) (text : List ℕ) : Type 0 where
   pub resync : Resync
-  pub after : ResyncAfter s start resync
+  pub after : ResyncAfter s start (resyncAnswer resync)
   pub is : text ≡ recordLine s (recordAt s start strict) ++ resyncLine resync

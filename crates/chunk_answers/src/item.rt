@@ -1,21 +1,40 @@
 // An answer of the walk as a line, and the numbers of a record.
-use chunk::Item;
+use chunk::Row;
 use record::Record;
 ghost use mathlib.Core.Path.{_≡_};
 ghost use Rattle.print.specs.Text.{Puts};
-ghost use Rattle.chunk_answers.specs.Item.{recordNumbers, itemLine};
+ghost use Rattle.chunk.specs.Listing.{wordsOf};
+ghost use Rattle.chunk_answers.specs.Item.{recordNumbers};
+ghost use Rattle.chunk_answers.specs.Lines.{rowRecord, rowLine};
 
 // Where a record's payload starts.
 const PAYLOAD: usize = 24;
 
-pub fn line(out: &mut [u8], at: usize, item: Item, chunk: &[u8]) -> usize
-    ensures { λ r. ⌜ Puts (itemLine (now (chunk .entry)) item) (now (out .entry)) at (now (out .exit)) r ⌝ }
+// The line of an answer, by its row.
+pub fn line(out: &mut [u8], at: usize, row: Row, chunk: &[u8]) -> usize
+    ensures { λ r. ⌜ Puts (rowLine (now (chunk .entry)) (wordsOf row)) (now (out .entry)) at (now (out .exit)) r ⌝ }
 {
-    match item {
-        Item::Live(r) => print::line(out, at, b"live", &numbers(r, chunk)),
-        Item::Carved(r) => print::line(out, at, b"carved", &numbers(r, chunk)),
-        Item::Refused(r) => print::refused(out, at, r),
-        Item::Done => print::text(out, at, b"done\n"),
+    if row.item == 1 {
+        return print::line(out, at, b"live", &numbers(record_of(row), chunk));
+    }
+    if row.item == 2 {
+        return print::line(out, at, b"carved", &numbers(record_of(row), chunk));
+    }
+    if row.item == 3 {
+        let list = [row.size, row.place];
+        return print::line(out, at, b"refused", &list);
+    }
+    print::text(out, at, b"done\n")
+}
+
+fn record_of(row: Row) -> Record
+    ensures { λ r. ⌜ r ≡ rowRecord (wordsOf row) ⌝ }
+{
+    Record {
+        offset: row.place as usize,
+        size: row.size as usize,
+        id: row.id,
+        time: row.time,
     }
 }
 

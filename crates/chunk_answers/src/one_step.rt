@@ -22,7 +22,7 @@ pub fn step(out: &mut [u8], at: usize, bytes: &[u8]) -> usize
     let stepped = state_of(bytes).step(chunk);
     let item = stepped.item;
     let after = stepped.state;
-    let end = item::line(out, at, item, chunk);
+    let end = item::line(out, at, item.row(), chunk);
     state(out, end, after)
 }
 
