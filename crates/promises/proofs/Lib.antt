@@ -14,6 +14,7 @@ pub mod OfDoortumble
 pub mod OfPrint
 pub mod OfAnswers
 pub mod Resume
+pub mod Room
 pub mod Samples
 pub mod Fits
 pub mod FitsValue

@@ -1,4 +1,5 @@
--- After a refusal with a resync offset q, the next live record is the one at q: what stands between is carved at most. Assumes nothing.
+-- After an unreadable record the next live record is the one at its resync offset, or there is none: what stands between is carved or
+-- refused. Assumes nothing.
 use mathlib.Core.Path.{_≡_, refl, sym, ap, subst, _∙_}
 use mathlib.Core.Bool.{Bool, true, false}
 use mathlib.Core.List.{List, [], _∷_}
@@ -17,7 +18,7 @@ use Rattle.cursor.specs.declared.Refusal.{Refusal}
 use Rattle.record.proofs.Within.{inside, strict-inside, strict-plain}
 use Rattle.chunk.specs.Least.{Least}
 use Rattle.chunk.specs.Allowed.{liveEnd, resyncable, isLive}
-use Rattle.chunk.specs.Walk.{Choose, Carves, Resyncs, Turns, Goes, answers, goes-on, Steps, walkTurn, readTurn, carvedAt, afterCarve, afterLive, skipTo, silent, answered}
+use Rattle.chunk.specs.Walk.{Choose, Carves, Resyncs, Goes, answers, goes-on, Steps, walkTurn, readTurn, carvedAt, afterCarve, afterRefusal, skipTo, silent}
 use Rattle.chunk.specs.Listing.{Runs}
 use Rattle.chunk.specs.Whole.{firstLive}
 use Rattle.chunk.specs.declared.Place.{Place}
@@ -33,68 +34,10 @@ use Rattle.chunk.specs.declared.Turn.the-variants as T
 use Rattle.chunk.proofs.Leasts.{one}
 use Rattle.chunk.proofs.Magics.{and-true}
 use Rattle.chunk.proofs.Suited.{reads-given}
-use Rattle.chunk.proofs.Phases.{answers-not, carve-next}
+use Rattle.chunk.proofs.Phases.{answers-not, carve-next, walk-next}
 use Rattle.chunk.proofs.Order.{answered-is, told}
 use Rattle.chunk.proofs.Whole.{step-goes}
-
--- what may come next while the walk stands at a record that can be read: that record, or a carved one with the walk where it was
-abbrev Next : ℕ → Record → Walk → Item → Type 0
-Next q r next (I.Live k) = k ≡ r
-Next q r next (I.Carved k) = next .place ≡ P.At q
-Next q r next (I.Refused k) = ⊥
-Next q r next I.Done = ⊥
-
-module _ (s : List ℕ) (h : Fields) (q : ℕ) (r : Record) (n : ℕ) (e : plainAt s q ≡ given r n) (l : q < liveEnd h) (x : Stepped) where
-  carved-next : (w : Walk) (a : Answer Record) → w .place ≡ P.At q → T.Answered x ≡ carvedAt w a → Next q r (x .state) (x .item)
-  carved-next w (given k m) p f = subst (λ (y : Stepped). Next q r (y .state) (y .item)) (sym (answered-is x _ f)) p
-  carved-next w (refused k c) p f = absurd (answers-not _ x (sym f))
-
-  carve-item : (w : Walk) (f : Found) → w .place ≡ P.At q → T.Answered x ≡ afterCarve s w f → Next q r (x .state) (x .item)
-  carve-item w (F.At o) p g = carved-next w (strictAt s o) p g
-  carve-item w F.Nothing p g = absurd (answers-not _ x (sym g))
-
-  -- the walk's own turn is the live record
-  live-turn : (w : Walk) (t : Turn) → walkTurn s h w (P.At q) t → t ≡ answered (afterLive h w r n) (I.Live r)
-  live-turn w t y =
-      let b = lt-leb (liveEnd h) q l in
-      let z : Choose false (t ≡ T.GoesOn (skipTo w q F.Nothing)) (readTurn s h w q (plainAt s q) t) =
-      subst (λ (c : Bool). Choose c (t ≡ T.GoesOn (skipTo w q F.Nothing)) (readTurn s h w q (plainAt s q) t)) b y in
-      subst (λ (a : Answer Record). readTurn s h w q a t) e z
-
-  item-by : (w : Walk) (b : Bool) → w .place ≡ P.At q → Choose b (Carves s w (T.Answered x)) (walkTurn s h w (w .place) (T.Answered x)) → Next q r (x .state) (x .item)
-  item-by w true p t = carve-item w (t .found) p (t .is)
-  item-by w false p t =
-      let f = live-turn w (T.Answered x) (subst (λ (c : Place). walkTurn s h w c (T.Answered x)) p t) in
-      subst (λ (y : Stepped). Next q r (y .state) (y .item)) (sym (answered-is x _ f)) refl
-
-  place-by : (w next : Walk) (b : Bool) → w .place ≡ P.At q → Choose b (Carves s w (T.GoesOn next)) (walkTurn s h w (w .place) (T.GoesOn next)) → next .place ≡ P.At q
-  place-by w next true p t = ap (λ (v : Walk). v .place) (carve-next w next s (t .found) (t .is)) ∙ p
-  place-by w next false p t =
-      let f = live-turn w (T.GoesOn next) (subst (λ (c : Place). walkTurn s h w c (T.GoesOn next)) p t) in
-      absurd (answers-not next _ f)
-
-  next-item : {w : Walk} → w .place ≡ P.At q → Goes s h x w → Next q r (x .state) (x .item)
-  next-item {w} p (answers t) = item-by w (ltb (w .from) (w .to)) p t
-  next-item {w} p (goes-on {next = v} t g) = next-item (place-by w v (ltb (w .from) (w .to)) p t) g
-
-module _ (s : List ℕ) (h : Fields) (m : ℕ) (header : fieldsAt s ≡ given h m) (q : ℕ) (r : Record) (n : ℕ) (e : plainAt s q ≡ given r n) (l : q < liveEnd h) where
-  live-by : (w : Walk) (x : Stepped) (i : Item) (items : List Item) → Next q r (x .state) (x .item) → x .item ≡ i
-      → (x .state .place ≡ P.At q → firstLive items ≡ F.At q) → firstLive (i ∷ items) ≡ F.At q
-  unfolding firstLive
-  live-by w x (I.Live k) items t f go =
-      let y : k ≡ r = subst (Next q r (x .state)) f t in
-      ap F.At (ap (λ (z : Record). z .offset) y ∙ inside s q r n e .same)
-  live-by w x (I.Carved k) items t f go = go (subst (Next q r (x .state)) f t)
-  live-by w x (I.Refused k) items t f go = absurd (subst (Next q r (x .state)) f t)
-  live-by w x I.Done items t f go = absurd (subst (Next q r (x .state)) f t)
-
-  -- from a state that stands at q on, the first live record is the one at q
-  pub first-live : (w : Walk) (items : List Item) → w .place ≡ P.At q → Runs s w items → firstLive items ≡ F.At q
-  unfolding Runs
-  first-live w [] p (x, (t, f)) =
-      absurd (subst (Next q r (x .state)) f (next-item s h q r n e l x p (step-goes s h m w x header t)))
-  first-live w (i ∷ items) p (x, (t, f, d, rest)) =
-      live-by w x i items (next-item s h q r n e l x p (step-goes s h m w x header t)) f (λ g. first-live (x .state) items g rest)
+use Rattle.promises.specs.Resume.{nextAt, NextLive}
 
 -- a record's refusal stands at its offset
 failed : {A : Type 0} (b : Bool) (k p m c : ℕ) (f : Unit → ℕ → Answer A) → (f tt p ≡ refused m c → c ≡ p) → (must b k p then f) ≡ refused m c → c ≡ p
@@ -113,15 +56,19 @@ refused-at s p k c e =
     (λ f. let z : _≡_ {A = ℕ} 0 1 = cc in absurd (omega arith))))))
     e
 
-abbrev placeOf : Found → Place
-placeOf (F.At q) = P.At q
-placeOf F.Nothing = P.Over
+abbrev standsAt : Found → Place
+standsAt (F.At q) = P.At q
+standsAt F.Nothing = P.Over
+
+skip-place : (w : Walk) (p : ℕ) (f : Found) → skipTo w p f .place ≡ standsAt f
+skip-place w p (F.At q) = refl
+skip-place w p F.Nothing = refl
 
 -- where a refusal leaves the walk: at the resync offset of its place, or nowhere
 record Left (s : List ℕ) (h : Fields) (x : Stepped) (r : Refusal) : Type 0 where
   found : Found
   least : Least (resyncable s h) (r .place + 1) found
-  stands : x .state .place ≡ placeOf found
+  stands : x .state .place ≡ standsAt found
 
 -- an item that is no refusal
 abbrev NoRefusal : Item → Type 0
@@ -133,10 +80,6 @@ NoRefusal I.Done = Unit {0}
 module _ (s : List ℕ) (h : Fields) (x : Stepped) (r : Refusal) (is : x .item ≡ I.Refused r) where
   other : (y : Stepped) → NoRefusal (y .item) → x ≡ y → Left s h x r
   other y t e = absurd (subst NoRefusal (ap (λ (z : Stepped). z .item) (sym e) ∙ is) t)
-
-  skip-place : (w : Walk) (p : ℕ) (f : Found) → skipTo w p f .place ≡ placeOf f
-  skip-place w p (F.At q) = refl
-  skip-place w p F.Nothing = refl
 
   refusal-left : (w : Walk) (p k c : ℕ) → plainAt s p ≡ refused k c → Resyncs s h w p k c (T.Answered x) → Left s h x r
   refusal-left w p k c e t =
@@ -179,19 +122,122 @@ module _ (s : List ℕ) (h : Fields) (x : Stepped) (r : Refusal) (is : x .item �
   goes-left {w} (answers t) = turn-left w (ltb (w .from) (w .to)) t
   goes-left {w} (goes-on t g) = goes-left g
 
--- "After an unreadable record the walk resumes at the least later offset that document 01 allows": with a refusal at p and its resync
--- offset q, the next live record is the one at q
-pub resumes : (s : List ℕ) (h : Fields) (m : ℕ) → fieldsAt s ≡ given h m → (w : Walk) (x : Stepped) (r : Refusal) (q : ℕ) (items : List Item)
-    → Steps s w x → x .item ≡ I.Refused r → Least (resyncable s h) (r .place + 1) (F.At q) → Runs s (x .state) items
-    → firstLive items ≡ F.At q
-resumes s h m header w x r q items t is least rest =
-    let y = goes-left s h x r is (step-goes s h m w x header t) in
-    let f = one (resyncable s h) (r .place + 1) (y .found) (F.At q) (y .least) least in
-    let p : x .state .place ≡ P.At q = y .stands ∙ ap placeOf f in
+-- what an answer says of the next live record: it is that one, it is still to come, or there is none
+abbrev Told : List ℕ → Fields → Found → Walk → Item → Type 0
+Told s h next w (I.Live r) = next ≡ F.At (r .offset)
+Told s h next w (I.Carved r) = NextLive s h (w .place) next
+Told s h next w (I.Refused r) = NextLive s h (w .place) next
+Told s h next w I.Done = next ≡ F.Nothing
+
+-- at the resync offset a record can be read, below live end
+found-next : (s : List ℕ) (h : Fields) (p : ℕ) (next : Found) → Least (resyncable s h) (p + 1) next → NextLive s h (standsAt next) next
+found-next s h p F.Nothing least = refl
+found-next s h p (F.At q) least =
     let a = and-true (leb (q + 4) _) _ (least .1) in
     let b = reads-given (isLive h) (strictAt s q) (a .1) in
     let i = strict-inside s q (b .0) (b .1 .0) (b .1 .1 .0) in
     let e = strict-plain s q (b .0) (b .1 .0) (b .1 .1 .0) in
     let c = and-true (leb (b .1 .0) (liveEnd h)) _ (b .1 .1 .1) in
     let l = leb-true (b .1 .0) (liveEnd h) (c .0) in
-    first-live s h m header q (b .0) (b .1 .0) e (omega (arith, i .least, i .after)) (x .state) items p rest
+    rw (lt-leb (liveEnd h) q (omega (arith, i .least, i .after))) (subst (nextAt s h q (F.At q)) (sym e) refl)
+
+-- a turn that answers
+module _ (s : List ℕ) (h : Fields) (next : Found) (x : Stepped) (w : Walk) where
+  told-by : (y : Stepped) → x ≡ y → Told s h next (y .state) (y .item) → Told s h next (x .state) (x .item)
+  told-by y e t = subst (λ (z : Stepped). Told s h next (z .state) (z .item)) (sym e) t
+
+  carved-told : (a : Answer Record) → NextLive s h (w .place) next → T.Answered x ≡ carvedAt w a → Told s h next (x .state) (x .item)
+  carved-told (given k m) n e = told-by _ (answered-is x _ e) n
+  carved-told (refused k c) n e = absurd (answers-not _ x (sym e))
+
+  carve-told : (f : Found) → NextLive s h (w .place) next → T.Answered x ≡ afterCarve s w f → Told s h next (x .state) (x .item)
+  carve-told (F.At o) n e = carved-told (strictAt s o) n e
+  carve-told F.Nothing n e = absurd (answers-not _ x (sym e))
+
+  read-told : (p : ℕ) (a : Answer Record) → plainAt s p ≡ a → nextAt s h p next a → readTurn s h w p a (T.Answered x) → Told s h next (x .state) (x .item)
+  read-told p (given r m) e n t = told-by _ (answered-is x _ t) (n ∙ ap F.At (sym (inside s p r m e .same)))
+  read-told p (refused k c) e n t =
+      let f = one (resyncable s h) (p + 1) (t .found) next (t .least) n in
+      told-by _ (told x (silent s p k (t .found)) _ _ _ (t .is))
+      (subst (λ (d : Place). NextLive s h d next) (sym (skip-place w p (t .found) ∙ ap standsAt f)) (found-next s h p next n))
+
+  at-told : (p : ℕ) (b : Bool) → Choose b (next ≡ F.Nothing) (nextAt s h p next (plainAt s p))
+      → Choose b (T.Answered x ≡ T.GoesOn (skipTo w p F.Nothing)) (readTurn s h w p (plainAt s p) (T.Answered x)) → Told s h next (x .state) (x .item)
+  at-told p true n t = absurd (answers-not _ x (sym t))
+  at-told p false n t = read-told p (plainAt s p) refl n t
+
+  walk-told : (place : Place) → NextLive s h place next → walkTurn s h w place (T.Answered x) → Told s h next (x .state) (x .item)
+  walk-told (P.At p) n t = at-told p (leb (liveEnd h) p) n t
+  walk-told P.Over n t = told-by _ (answered-is x _ t) n
+
+  turn-told : (b : Bool) → NextLive s h (w .place) next → Choose b (Carves s w (T.Answered x)) (walkTurn s h w (w .place) (T.Answered x))
+      → Told s h next (x .state) (x .item)
+  turn-told true n t = carve-told (t .found) n (t .is)
+  turn-told false n t = walk-told (w .place) n t
+
+-- a turn without an answer: a carve range is used up, or the walk ends with no live record to come
+module _ (s : List ℕ) (h : Fields) (next : Found) (w v : Walk) where
+  silent-none : (p k c : ℕ) (f : Found) → T.GoesOn v ≡ afterRefusal s w p k c f → f ≡ next → next ≡ F.Nothing
+  silent-none p k c (F.At q) t e = absurd (answers-not v _ t)
+  silent-none p k c F.Nothing t e = sym e
+
+  read-none : (p : ℕ) (a : Answer Record) → nextAt s h p next a → readTurn s h w p a (T.GoesOn v) → next ≡ F.Nothing
+  read-none p (given r m) n t = absurd (answers-not v _ t)
+  read-none p (refused k c) n t = silent-none p k c (t .found) (t .is) (one (resyncable s h) (p + 1) (t .found) next (t .least) n)
+
+  at-none : (p : ℕ) (b : Bool) → Choose b (next ≡ F.Nothing) (nextAt s h p next (plainAt s p))
+      → Choose b (T.GoesOn v ≡ T.GoesOn (skipTo w p F.Nothing)) (readTurn s h w p (plainAt s p) (T.GoesOn v)) → next ≡ F.Nothing
+  at-none p true n t = n
+  at-none p false n t = read-none p (plainAt s p) n t
+
+  walk-none : (place : Place) → NextLive s h place next → walkTurn s h w place (T.GoesOn v) → next ≡ F.Nothing
+  walk-none (P.At p) n t = at-none p (leb (liveEnd h) p) n t
+  walk-none P.Over n t = n
+
+  turn-on : (b : Bool) → NextLive s h (w .place) next → Choose b (Carves s w (T.GoesOn v)) (walkTurn s h w (w .place) (T.GoesOn v))
+      → NextLive s h (v .place) next
+  turn-on true n t = subst (λ (d : Place). NextLive s h d next) (sym (ap (λ (z : Walk). z .place) (carve-next w v s (t .found) (t .is)))) n
+  turn-on false n t =
+      let y = walk-next w v s h (w .place) t in
+      subst (λ (d : Place). NextLive s h d next) (sym (ap (λ (z : Walk). z .place) (y .1 .1))) (walk-none (w .place) n t)
+
+goes-told : (s : List ℕ) (h : Fields) (next : Found) (x : Stepped) {w : Walk} → NextLive s h (w .place) next → Goes s h x w
+    → Told s h next (x .state) (x .item)
+goes-told s h next x {w} n (answers t) = turn-told s h next x w (ltb (w .from) (w .to)) n t
+goes-told s h next x {w} n (goes-on {next = v} t g) = goes-told s h next x (turn-on s h next w v (ltb (w .from) (w .to)) n t) g
+
+module _ (s : List ℕ) (h : Fields) (m : ℕ) (header : fieldsAt s ≡ given h m) (next : Found) where
+  live-by : (w : Walk) (i : Item) (items : List Item) → Told s h next w i → (i ≡ I.Done → ⊥) → (NextLive s h (w .place) next → firstLive items ≡ next)
+      → firstLive (i ∷ items) ≡ next
+  unfolding firstLive
+  live-by w (I.Live r) items t d go = sym t
+  live-by w (I.Carved r) items t d go = go t
+  live-by w (I.Refused r) items t d go = go t
+  live-by w I.Done items t d go = absurd (d refl)
+
+  -- of any run from any state: the first live record is the next one of the place where the walk stands, or there is none
+  pub next-live : (w : Walk) (items : List Item) → NextLive s h (w .place) next → Runs s w items → firstLive items ≡ next
+  unfolding Runs firstLive
+  next-live w [] n (x, (t, f)) = sym (subst (Told s h next (x .state)) f (goes-told s h next x n (step-goes s h m w x header t)))
+  next-live w (i ∷ items) n (x, (t, f, d, rest)) =
+      live-by (x .state) i items (subst (Told s h next (x .state)) f (goes-told s h next x n (step-goes s h m w x header t))) d
+      (λ go. next-live (x .state) items go rest)
+
+-- "After an unreadable record the walk resumes at the least later offset that document 01 allows, or at none": a walk that stands, below
+-- live end, at a record p that cannot be read, whatever is carved first and whether its refusal is answered or not
+pub resumes : (s : List ℕ) (h : Fields) (m : ℕ) → fieldsAt s ≡ given h m → (w : Walk) (p k c : ℕ) (next : Found) (items : List Item)
+    → w .place ≡ P.At p → p < liveEnd h → plainAt s p ≡ refused k c → Least (resyncable s h) (p + 1) next → Runs s w items
+    → firstLive items ≡ next
+resumes s h m header w p k c next items e l f least r =
+    let n : NextLive s h (P.At p) next = rw (lt-leb (liveEnd h) p l) (subst (nextAt s h p next) (sym f) least) in
+    next-live s h m header next w items (subst (λ (d : Place). NextLive s h d next) (sym e) n) r
+
+-- the same after a refusal that was answered, at its place
+pub refusal-resumes : (s : List ℕ) (h : Fields) (m : ℕ) → fieldsAt s ≡ given h m → (w : Walk) (x : Stepped) (r : Refusal) (next : Found) (items : List Item)
+    → Steps s w x → x .item ≡ I.Refused r → Least (resyncable s h) (r .place + 1) next → Runs s (x .state) items
+    → firstLive items ≡ next
+refusal-resumes s h m header w x r next items t is least rest =
+    let y = goes-left s h x r is (step-goes s h m w x header t) in
+    let f = one (resyncable s h) (r .place + 1) (y .found) next (y .least) least in
+    let n = found-next s h (r .place) next least in
+    next-live s h m header next (x .state) items (subst (λ (d : Place). NextLive s h d next) (sym (y .stands ∙ ap standsAt f)) n) rest

@@ -1,4 +1,6 @@
 -- Document 01's samples that are to be proved, and what the promises over the finished contracts say.
+pub mod Resume
+pub mod Room
 pub mod Samples
 pub mod Packed
 pub mod Bodies
