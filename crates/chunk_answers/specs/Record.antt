@@ -15,22 +15,22 @@ use Rattle.chunk.specs.declared.Resync.the-variants as R
 use Rattle.print.specs.Text.{ascii, lineOf, refusedOf}
 use Rattle.chunk_answers.specs.Item.{sizeOn}
 
--- "`record` size id filetime payload-start payload-length, or `refused` number place"
+-- '`record` size id filetime payload-start payload-length, or `refused` number place'
 abbrev pub recordLine : List ℕ → Answer Record → List ℕ
 recordLine s (given r next) = lineOf (ascii "record") (sizeOn s r)
 recordLine s (refused number place) = refusedOf (refusalOf number place)
 
--- "`resync` q, or `resync none`"
+-- '`resync` q, or `resync none`'
 abbrev pub foundLine : Found → List ℕ
 foundLine (F.At q) = lineOf (ascii "resync") (q ∷ [])
 foundLine F.Nothing = ascii "resync none\n"
 
--- "no such line where the chunk's length or magic is refused"
+-- 'no such line where the chunk's length or magic is refused'
 abbrev pub resyncLine : Resync → List ℕ
 resyncLine (R.Answered found) = foundLine found
 resyncLine (R.Refused r) = []
 
--- the record's line, "Then" the line of "the resync offset after p = start"
+-- the record's line, "Then" the line of 'the resync offset after p = start'
 pub record RecordText (s : List ℕ) (start : ℕ) (strict : Bool) (text : List ℕ) : Type 0 where
   pub resync : Resync
   pub after : ResyncAfter s start (resyncAnswer resync)

@@ -15,11 +15,11 @@ use Rattle.chunk.specs.declared.Stepped.{Stepped}
 use Rattle.print.specs.Text.{ascii, lineOf}
 use Rattle.chunk_answers.specs.Item.{itemLine}
 
--- "1 or 0 (a walk position stands or not), the position"; "other flag words: not 0 counts as 1"
+-- '1 or 0 (a walk position stands or not), the position'; 'other flag words: not 0 counts as 1'
 abbrev pub placeOf : ℕ → ℕ → Place
 placeOf stands position = pick (eqb stands 0) P.Over (P.At position)
 
--- "State: five u64, little-endian: 1 or 0 (a walk position stands or not), the position, carve start, carve end, recovery 1 or 0"
+-- 'State: five u64, little-endian: 1 or 0 (a walk position stands or not), the position, carve start, carve end, recovery 1 or 0'
 abbrev pub stateAt : List ℕ → Walk
 stateAt s =
     record {
@@ -34,16 +34,16 @@ abbrev pub placeNumbers : Place → List ℕ
 placeNumbers (P.At p) = 1 ∷ p ∷ []
 placeNumbers P.Over = 0 ∷ 0 ∷ []
 
--- "then `state` and the five numbers that came back"
+-- 'then `state` and the five numbers that came back'
 abbrev pub stateLine : Walk → List ℕ
 stateLine w = lineOf (ascii "state") (placeNumbers (w .place) ++ (w .from ∷ w .to ∷ pick (w .recover) 1 0 ∷ []))
 
--- "One answer line as under W (`done` too), then `state` and the five numbers that came back"
+-- 'One answer line as under W (`done` too), then `state` and the five numbers that came back'
 pub record StepLines (s : List ℕ) (w : Walk) (text : List ℕ) : Type 0 where
   pub stepped : Stepped
   pub steps : Steps s w stepped
   pub is : text ≡ itemLine s (stepped .item) ++ stateLine (stepped .state)
 
--- "data is 40 bytes of state and then the chunk"; nothing is put where there are fewer
+-- 'data is 40 bytes of state and then the chunk'; nothing is put where there are fewer
 abbrev pub StepText : List ℕ → List ℕ → Type 0
 StepText s text = Choose (ltb (length s) 40) (text ≡ []) (StepLines (drop 40 s) (stateAt s) text)

@@ -1,4 +1,4 @@
--- The check value of CRC-32 (IEEE): the CRC of the text "123456789" is CBF43926. antt computes it by the definition.
+-- The check value of CRC-32 (IEEE): the CRC of the text '123456789' is CBF43926. antt computes it by the definition.
 -- Assumes nothing.
 use mathlib.Core.Path.{_≡_, refl}
 use mathlib.Core.List.{[], _∷_}

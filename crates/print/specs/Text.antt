@@ -76,7 +76,7 @@ hexHalf n = hexByte (n / 0x1000000) ++ hexByte (n / 0x10000 % 0x100) ++ hexByte 
 abbrev pub hexWord : ℕ → List ℕ
 hexWord n = hexHalf (n / 0x100000000) ++ hexHalf (n % 0x100000000)
 
--- bytes in hexadecimal, "`-` where there are none"
+-- bytes in hexadecimal, '`-` where there are none'
 abbrev pub hexOf : List ℕ → List ℕ
 hexOf [] = ascii "-"
 hexOf (b ∷ s) = each hexByte (b ∷ s)

@@ -223,7 +223,7 @@ module _ (s : List ℕ) (h : Fields) (m : ℕ) (header : fieldsAt s ≡ given h 
       live-by (x .state) i items (subst (Told s h next (x .state)) f (goes-told s h next x n (step-goes s h m w x header t))) d
       (λ go. next-live (x .state) items go rest)
 
--- "After an unreadable record the walk resumes at the least later offset that document 01 allows, or at none": a walk that stands, below
+-- 'After an unreadable record the walk resumes at the least later offset that document 01 allows, or at none': a walk that stands, below
 -- live end, at a record p that cannot be read, whatever is carved first and whether its refusal is answered or not
 pub resumes : (s : List ℕ) (h : Fields) (m : ℕ) → fieldsAt s ≡ given h m → (w : Walk) (p k c : ℕ) (next : Found) (items : List Item)
     → w .place ≡ P.At p → p < liveEnd h → plainAt s p ≡ refused k c → Least (resyncable s h) (p + 1) next → Runs s w items

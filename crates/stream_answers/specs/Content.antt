@@ -13,13 +13,13 @@ use Rattle.value.specs.declared.Scalar.the-variants.{Signed, Unsigned, Single, 
 use Rattle.value.specs.declared.Value.{Value}
 use Rattle.print.specs.Text.{ascii, decimalOf, hexByte, hexHalf, hexWord, hexOf}
 
--- "the signed number in decimal"
+-- 'the signed number in decimal'
 abbrev pub signedText : ℤ → List ℕ
 signedText (pos n) = decimalOf n
 signedText (negsuc n) = ascii "-" ++ decimalOf (n + 1)
 
--- "`i` and the signed number", "`u` and the unsigned number", "`f` and the stored bits in hex, most significant digit first, 8 or 16
--- digits": a single has 32 bits
+-- '`i` and the signed number', '`u` and the unsigned number', '`f` and the stored bits in hex, most significant digit first, 8 or 16
+-- digits': a single has 32 bits
 abbrev pub scalarText : ℕ → Scalar → List ℕ
 scalarText bits (Signed z) = ascii "i" ++ signedText z
 scalarText bits (Unsigned n) = ascii "u" ++ decimalOf n
@@ -31,7 +31,7 @@ abbrev pub numberText : Maybe Decoded → List ℕ
 numberText (just d) = scalarText (d .bits) (d .value)
 numberText nothing = []
 
--- "`n` for type 00; `t` and the view's bytes for 01"; numbers; "`b` and the bytes for all else (`t-` and `b-` where there are none)"
+-- '`n` for type 00; `t` and the view's bytes for 01'; numbers; '`b` and the bytes for all else (`t-` and `b-` where there are none)'
 abbrev pub heldText : List ℕ → ℕ → Content → List ℕ
 heldText s code C.Nothing = ascii "n"
 heldText s code (C.Text v) = ascii "t" ++ hexOf (partOf s (v .part))
@@ -41,19 +41,19 @@ heldText s code (C.Bytes p) = ascii "b" ++ hexOf (partOf s p)
 abbrev pub contentText : List ℕ → Value → List ℕ
 contentText s v = heldText s (v .code) (v .content)
 
--- "type in two hex digits"
+-- 'type in two hex digits'
 abbrev pub typeText : ℕ → List ℕ
 typeText code = ascii " " ++ hexByte code ++ ascii ":"
 
--- "start:next:content", after the size
+-- 'start:next:content', after the size
 abbrev pub placesText : List ℕ → Value → ℕ → List ℕ
 placesText s v next = ascii ":" ++ decimalOf (v .start) ++ ascii ":" ++ decimalOf next ++ ascii ":" ++ contentText s v
 
--- "type:size:start:next:content"
+-- 'type:size:start:next:content'
 abbrev pub sizedText : List ℕ → Value → ℕ → ℕ → List ℕ
 sizedText s v size next = typeText (v .code) ++ decimalOf size ++ placesText s v next
 
--- "type:-:start:next:content"
+-- 'type:-:start:next:content'
 abbrev pub sizelessText : List ℕ → Value → ℕ → List ℕ
 sizelessText s v next = typeText (v .code) ++ ascii "-" ++ placesText s v next
 

@@ -15,18 +15,18 @@ use Rattle.doortumble.specs.Calls.{packedOf, OwnersPacked}
 use Rattle.stream_answers.specs.declared.Asked.{Asked}
 use Rattle.print.specs.Text.{ascii, each, hexWord, spacedWord, spacedHalf, lineOf, refusedOf}
 
--- "`single` offset or `single none`"
+-- '`single` offset or `single none`'
 abbrev pub singleText : Maybe ℕ → List ℕ
 singleText (just n) = lineOf (ascii "single") (n ∷ [])
 singleText nothing = ascii "single none\n"
 
--- "`ends yes`, `ends no` or `ends none`"
+-- '`ends yes`, `ends no` or `ends none`'
 abbrev pub endsText : Maybe Bool → List ℕ
 endsText (just true) = ascii "ends yes\n"
 endsText (just false) = ascii "ends no\n"
 endsText nothing = ascii "ends none\n"
 
--- S: "data is the stream, `start` is how much was consumed"
+-- S: 'data is the stream, `start` is how much was consumed'
 abbrev pub singleLines : List ℕ → ℕ → List ℕ
 singleLines s consumed = singleText (singleOf s) ++ endsText (endsOf s consumed)
 
@@ -34,7 +34,7 @@ singleLines s consumed = singleText (singleOf s) ++ endsText (endsOf s consumed)
 abbrev pub askedWalk : List ℕ → Asked → Walked
 askedWalk s a = walkOf s (a .start) (a .length) (a .flags)
 
--- O: "`owners` and the words, or `refused` number place": the words of as many tokens as the answer counts
+-- O: '`owners` and the words, or `refused` number place': the words of as many tokens as the answer counts
 abbrev pub ownersText : Result ℕ → List ℕ → List ℕ
 ownersText (gives n) left = lineOf (ascii "owners") (take n left)
 ownersText (refuses k p) left = refusedOf (record { number = k; place = p })
@@ -46,8 +46,8 @@ pub record OwnersSaid (w : Walked) (text : List ℕ) : Type 0 where
   pub answered : Answered (replicate 65536 0) left w answer
   pub is : text ≡ ownersText answer left
 
--- C: "Data is four bytes of room (u32; more than 65,536 counts as that: how many words are lent, each first set to all ones) and then the
--- stream"
+-- C: 'Data is four bytes of room (u32; more than 65,536 counts as that: how many words are lent, each first set to all ones) and then the
+-- stream'
 abbrev pub roomIn : List ℕ → ℕ
 roomIn bytes = numberOf bytes 0 4
 
@@ -57,11 +57,11 @@ streamOf bytes = drop 4 bytes
 abbrev pub lentWords : List ℕ → ℕ → List ℕ
 lentWords bytes ones = replicate (pick (leb (roomIn bytes) 65536) (roomIn bytes) 65536) ones
 
--- "`answer` and the packed word in 16 hex digits"
+-- '`answer` and the packed word in 16 hex digits'
 unfoldable pub answerText : ℕ → List ℕ
 answerText word = ascii "answer " ++ hexWord word ++ ascii "\n"
 
--- "`words` and the lent words in hex (16 or 8 digits each)"
+-- '`words` and the lent words in hex (16 or 8 digits each)'
 abbrev pub wordsText : List ℕ → List ℕ
 wordsText words = ascii "words" ++ each spacedWord words ++ ascii "\n"
 

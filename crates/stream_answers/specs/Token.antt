@@ -1,4 +1,4 @@
--- A token's line: "place length kind, then by kind". docs/ANSWERS.md, mode T.
+-- A token's line: 'place length kind, then by kind'. docs/ANSWERS.md, mode T.
 use mathlib.Core.List.{List, [], _++_}
 use Prim.Native.Nat.{ℕ, zero, suc, _+_}
 use lib.Dec.{eqb}
@@ -15,7 +15,7 @@ use Rattle.sheet.specs.Sheet.{flagBit}
 use Rattle.print.specs.Text.{ascii, decimalOf, spacedNumber}
 use Rattle.stream_answers.specs.Content.{sizedText, sizelessText, bytesField}
 
--- "for each value a field type:size:start:next:content"; the next value's place is where the value's read ends
+-- 'for each value a field type:size:start:next:content'; the next value's place is where the value's read ends
 abbrev pub nextText : List ℕ → Result (Maybe ValueNext) → (Values → List ℕ) → List ℕ
 nextText s (gives (just x)) go = sizedText s (x .value) (x .size) (x .rest .at) ++ go (x .rest)
 nextText s (gives nothing) go = []
@@ -26,23 +26,23 @@ unfoldable pub valuesFrom : ℕ → List ℕ → Values → List ℕ
 valuesFrom zero s v = []
 valuesFrom (suc left) s v = nextText s (nextOf s v) (valuesFrom left s)
 
--- "id definition-offset guid-or-`-` count, then for each value a field"
+-- 'id definition-offset guid-or-`-` count, then for each value a field'
 abbrev pub instanceText : List ℕ → Instance → List ℕ
 instanceText s i =
     spacedNumber (i .id) ++ spacedNumber (i .offset) ++ bytesField (partOf s (i .guid)) ++ spacedNumber (i .count) ++ valuesFrom (i .count) s (valuesOf i)
 
--- "12 char ref: the number. 13 substitution: number, 1 or 0 (optional)." "3, 4, 5: nothing more."
+-- '12 char ref: the number. 13 substitution: number, 1 or 0 (optional).' '3, 4, 5: nothing more.'
 abbrev pub numberedText : Token → List ℕ
 numberedText t =
     pick (eqb (t .kind) charRefKind) (spacedNumber (t .number))
     (pick (eqb (t .kind) substitutionKind) (spacedNumber (t .number) ++ spacedNumber (flagBit (t .flag))) [])
 
--- "2 open: name-offset, dependency or `-`"; the others have the name alone
+-- '2 open: name-offset, dependency or `-`'; the others have the name alone
 abbrev pub dependencyText : Token → List ℕ
 dependencyText t = pick (eqb (t .kind) openKind) (pick (t .flag) (spacedNumber (t .number)) (ascii " -")) []
 
--- by what the token holds: "7 attribute, 8 entity ref, 9 PI target: name-offset", "10 PI data, 11 CDATA: the view's bytes",
--- "6 value: a field type:-:start:next:content", the next place being where the token ends
+-- by what the token holds: '7 attribute, 8 entity ref, 9 PI target: name-offset', '10 PI data, 11 CDATA: the view's bytes',
+-- '6 value: a field type:-:start:next:content', the next place being where the token ends
 abbrev pub byHeld : List ℕ → Token → Held → List ℕ
 byHeld s t H.Nothing = numberedText t
 byHeld s t (H.Name n) = spacedNumber (n .offset) ++ dependencyText t

@@ -9,16 +9,16 @@ use Rattle.sheet.specs.Sheet.{readAt}
 use Rattle.print.specs.Text.{ascii, each, lineOf, refusedOf}
 use Rattle.stream_answers.specs.Token.{tokenText}
 
--- "A line a token"
+-- 'A line a token'
 abbrev pub tokensText : List ℕ → List Token → List ℕ
 tokensText s l = each (tokenText s) l
 
--- "Last `ok` and the count of tokens, or `refused` number place"
+-- 'Last `ok` and the count of tokens, or `refused` number place'
 abbrev pub lastText : Result ℕ → List ℕ
 lastText (gives n) = lineOf (ascii "ok") (n ∷ [])
 lastText (refuses k p) = refusedOf (record { number = k; place = p })
 
--- "the tokens before a refusal are listed": none where the stream's length or the start is refused
+-- 'the tokens before a refusal are listed': none where the stream's length or the start is refused
 abbrev pub listedIn : List ℕ → Flags → Result (ℕ × ℕ) → List Token
 listedIn s f (gives (start, end)) = readAt s end f start
 listedIn s f (refuses k p) = []
