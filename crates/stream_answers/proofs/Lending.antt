@@ -8,12 +8,10 @@ use native.Mathlib.Decide.{decLt}
 use borrow.Author.Tests.{le-leb, lt-leb}
 use lib.Dec.{leb}
 use lib.ListN.{length, take, drop, replicate}
-use Rattle.cursor.specs.Answer.{Result, gives, pick}
+use Rattle.cursor.specs.Answer.{pick}
 use mir.Val.{boolByte}
-use Rattle.tokens.specs.Walk.{Walked}
 use Rattle.tokens.specs.declared.Flags.{Flags}
 use Rattle.doortumble.specs.Calls.{flagOf, flagsOf}
-use Rattle.body.specs.Verdict.{Answered, unread, refused, no-room, a-body}
 
 take-less : (x k n : ℕ) → k ≤ n → take k (replicate n x) ≡ replicate k x
 take-less x zero n h = refl
@@ -39,13 +37,6 @@ drop-short zero [] h = refl
 drop-short zero (x ∷ l) h = absurd (omega arith)
 drop-short (suc n) [] h = refl
 drop-short (suc n) (x ∷ l) h = drop-short n l (omega arith)
-
--- a table has a word for each token that is counted
-pub counted-fits : (lent left : List ℕ) (w : Walked) (c : Result ℕ) (n : ℕ) → Answered lent left w c → c ≡ gives n → n ≤ length lent
-counted-fits lent left w c n (unread k p e) h = let y : _≡_ {A = ℕ} 0 1 = cc in absurd (omega arith)
-counted-fits lent left w c n (refused l k p r e) h = let y : _≡_ {A = ℕ} 0 1 = cc in absurd (omega arith)
-counted-fits lent left w c n (no-room l words r m e) h = let y : _≡_ {A = ℕ} 0 1 = cc in absurd (omega arith)
-counted-fits lent left w c n (a-body l words r m e) h = let y : length l ≡ n = cc in omega (arith, m)
 
 -- a flag as a number, and back
 bit-back : (b : Bool) → flagOf (boolByte b) ≡ b

@@ -4,7 +4,7 @@ use mathlib.Core.Path.{sym, ap}
 use Rattle.cursor.specs.Answers.{countAnswer}
 use Rattle.cursor.specs.declared.Counted.{Counted}
 use Rattle.stream_answers.specs.Modes.{ownersText}
-use Rattle.stream_answers.proofs.Lending.{counted-fits}
+use Rattle.body.proofs.Answers.{counted-fits}
 use Prim.Native.Nat.{ℕ}
 use native.Mathlib.Omega.{arith}
 use lib.ListN.{replicate, length-replicate}
