@@ -50,12 +50,12 @@ givenOf (ok l) = words (wordsOf l)
 givenOf (bad k p) = stopped k p
 
 -- where the first value of the walk's first token starts, and where the next one would
-abbrev pub startOf : Answer Value → Answer ℕ
-startOf (given v next) = given (v .start) next
-startOf (refused k p) = refused k p
+abbrev pub valueStart : Answer Value → Answer ℕ
+valueStart (given v next) = given (v .start) next
+valueStart (refused k p) = refused k p
 
 abbrev pub heldValue : List ℕ → Held → Answer ℕ
-heldValue s (H.Instance i) = startOf (valueStep s (i .table) (i .values))
+heldValue s (H.Instance i) = valueStart (valueStep s (i .table) (i .values))
 heldValue s H.Nothing = refused 0 0
 heldValue s (H.Name n) = refused 0 0
 heldValue s (H.Text v) = refused 0 0
