@@ -13,7 +13,7 @@ use Rattle.cursor.specs.Answers.{countAnswer}
 use Rattle.cursor.specs.Lent.{laid}
 use Rattle.tokens.specs.Walk.{Walked, ok}
 use Rattle.tokens.specs.declared.Token.{Token}
-use Rattle.sheet.specs.Sheet.{kindsOf}
+use Rattle.sheet.specs.Sheet.{markOf, kindsOf}
 use Rattle.body.specs.Verdict.{Refuses, Verdict, a-body, Judged, read, tableAnswer, tableLeft, Answered}
 use Rattle.body.specs.Verdict as verdict
 use Rattle.body.proofs.Agree.{one-table}
@@ -28,7 +28,7 @@ not-both-ways n k p e = let z : _≡_ {A = ℕ} 0 1 = cc in absurd (omega arith)
 module _ (l : List Token) (lent left : List ℕ) (o : Result ℕ) (room : length l ≤ length lent) where
   of-body : (words : List ℕ) → FormsBody l words → o ≡ tableAnswer (gives words) lent → left ≡ tableLeft (gives words) lent → Decided l lent left o
   of-body words r e f =
-      let n : length words ≡ length l = r .each ∙ length-map l (λ (t : Token). t .kind) in
+      let n : length words ≡ length l = r .each ∙ length-map l markOf in
       let b = le-leb (length words) (length lent) (omega (arith, n)) in
       let c : tableAnswer (gives words) lent ≡ gives (length words) = rw b in
       let d : tableLeft (gives words) lent ≡ laid words lent = rw b in

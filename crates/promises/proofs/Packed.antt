@@ -19,7 +19,8 @@ use Rattle.tokens.specs.declared.Flags.{Flags}
 use Rattle.tokens.specs.declared.Token.{Token}
 use Rattle.sheet.specs.Sheet.{wordsOf, sheetAnswer, markOf, kindsOf}
 use Rattle.sheet.proofs.Laying.{words-length}
-use Rattle.body.specs.Verdict.{Refuses, no-body, too-deep, unfinished-body, Answered, unread, refused, no-room, a-body}
+use Rattle.body.specs.Verdict.{Refuses, no-body, too-deep, unfinished-body, a-body, Judged, unread, read, tableAnswer, Answered}
+use Rattle.body.specs.Verdict as verdict
 use Rattle.chunk.specs.Walk.{Choose, startOf}
 use Rattle.chunk.specs.Listing.{rowsOf, listsOn, Lists}
 use Rattle.chunk.proofs.Laying.{rows-length}
@@ -68,11 +69,15 @@ grammar-small kinds (unfinished-body x) h = (omega arith, omega arith)
 kinds-short : (l : List Token) → length l ≤ 65536 → length (kindsOf l) ≤ 65536
 kinds-short l h = omega (arith, length-map l markOf)
 
+verdict-bits : (lent : List ℕ) {w : Walked} {v : Result (List ℕ)} → Judged w v → WalkFits 65536 w → InBits (tableAnswer v lent)
+verdict-bits lent (unread k p) h = small-bits k p h
+verdict-bits lent (read l v (a-body words x)) h =
+    let n = kinds-short l h in
+    either InBits (leb (length words) (length lent)) _ _ (λ e. omega (arith, x .each)) (λ e. (omega arith, omega (arith, x .each)))
+verdict-bits lent (read l v (verdict.refused k p x)) h = small-bits k p (grammar-small (kindsOf l) x (kinds-short l h))
+
 owners-bits : (lent left : List ℕ) {w : Walked} {o : Result ℕ} → Answered lent left w o → WalkFits 65536 w → InBits o
-owners-bits lent left (unread k p e) h = small-bits k p h
-owners-bits lent left (refused l k p x e) h = small-bits k p (grammar-small (kindsOf l) x (kinds-short l h))
-owners-bits lent left (no-room l words x g e) h = (omega arith, omega arith)
-owners-bits lent left (a-body l words x g e) h = omega arith
+owners-bits lent left x h = subst InBits (sym (x .answer)) (verdict-bits lent (x .judged) h)
 
 -- the listing: a chunk is refused at 0; and there are at most 4,645 answers of five words each
 must-fits : (b : Bool) (k : ℕ) → k < 2 ^ 7 → Fits 65536 (must b k 0)

@@ -2,7 +2,7 @@
 use mathlib.Core.Path.{_≡_, refl, subst}
 use mathlib.Core.List.{List}
 use Prim.Native.Nat.{ℕ}
-use Rattle.cursor.specs.Reads.{little}
+use Rattle.cursor.specs.Reads.{little, arrayAt}
 use Rattle.cursor.specs.Text.{unitsOf, beforeZero}
 use Rattle.cursor.specs.Answer.{Result}
 use Rattle.name.specs.Hash.{hashFrom}
@@ -27,6 +27,6 @@ a-body : (w : Walked) (lent : List ℕ) (r : Result ℕ) (left : List ℕ) → a
 a-body w lent r left e f = subst (λ (l : List ℕ). Answered lent l w r) f (subst (Answered lent (leftOf w lent) w) e (answer-holds w lent))
 
 pub all-samples : All samples
-unfolding samples little unitsOf beforeZero hashFrom unitsAt among knownCode widthOf sizedAt unsizedAt tableAt valuesAt singleOf gistAt turnAt stepFrom walkFrom walkOf opening step ended outcome wordsFrom
+unfolding samples little arrayAt unitsOf beforeZero hashFrom unitsAt among knownCode widthOf sizedAt unsizedAt tableAt valuesAt singleOf gistAt turnAt stepFrom walkFrom walkOf opening step ended outcome wordsFrom
 all-samples =
     refl and a-body _ _ _ _ refl refl and refl and a-body _ _ _ _ refl refl and refl and refl and refl and a-body _ _ _ _ refl refl and a-body _ _ _ _ refl refl and refl and refl and refl and a-body _ _ _ _ refl refl and refl and refl and refl and refl and a-body _ _ _ _ refl refl and refl and refl and refl and refl and refl and refl and tt {0}
