@@ -12,13 +12,14 @@ use Rattle.tokens.specs.Instance.{tableAt, valuesAt}
 use Rattle.tokens.specs.Single.{endsOf}
 use Rattle.tokens.specs.Table.{gistAt}
 use Rattle.tokens.specs.Walk.{turnAt, stepFrom, walkFrom, walkOf}
+use Rattle.sheet.specs.Sheet.{readFrom}
 use Rattle.stream_answers.specs.Modes.{answerText}
 use Rattle.stream_answers.specs.Token.{valuesFrom}
 use Rattle.print.specs.Text.{put, each, decimalIn}
 use Rattle.vectors.specs.Calls.{Calls}
 
 pub calls : Calls
-unfolding little startsWith unitsOf beforeZero hashFrom among knownCode widthOf bitsOf realOf unsignedOf decodedOf sizedAt unsizedAt fieldsAt offsetsAt payloadOf tableAt valuesAt endsOf gistAt turnAt stepFrom walkFrom walkOf put each decimalIn valuesFrom answerText
+unfolding little startsWith unitsOf beforeZero hashFrom among knownCode widthOf bitsOf realOf unsignedOf decodedOf sizedAt unsizedAt fieldsAt offsetsAt payloadOf tableAt valuesAt endsOf gistAt turnAt stepFrom walkFrom walkOf put each decimalIn readFrom valuesFrom answerText
 calls =
     record {
       read = refl;
