@@ -25,36 +25,36 @@ Inside high (given x next) = (placeOf x ≤ high) × (next ≤ high)
 Inside high (refused k p) = (k ≤ 17) × (p ≤ high)
 
 -- the same of a part of bytes
-abbrev Holds : ℕ → Answer Part → Type 0
+abbrev pub Holds : ℕ → Answer Part → Type 0
 Holds high (given p next) = (p .start ≤ high) × (next ≤ high)
 Holds high (refused k p) = (k ≤ 17) × (p ≤ high)
 
-as-bytes : (high : ℕ) (a : Answer Part) → Holds high a → Inside high (a then asBytes)
+pub as-bytes : (high : ℕ) (a : Answer Part) → Holds high a → Inside high (a then asBytes)
 as-bytes high (given p next) h = h
 as-bytes high (refused k p) h = h
 
-as-number : (high : ℕ) (a : Answer Part) → Holds high a → Inside high (a then asNumber)
+pub as-number : (high : ℕ) (a : Answer Part) → Holds high a → Inside high (a then asNumber)
 as-number high (given p next) h = h
 as-number high (refused k p) h = h
 
 module _ (t : List ℕ) where
-  takes : (n : ℕ) → Holds (length t) (takeAt t 0 n)
+  pub takes : (n : ℕ) → Holds (length t) (takeAt t 0 n)
   takes n = either (Holds (length t)) (within t 0 n) _ _ (λ w. (omega arith, leb-true (0 + n) (length t) w)) (λ w. (omega arith, omega arith))
 
-  a-sid : Holds (length t) (sidAt t 0)
+  pub a-sid : Holds (length t) (sidAt t 0)
   a-sid =
       either (λ a. Holds (length t) (a then λ groups _. takeAt t 0 (8 + 4 * groups))) (within t 0 8) _ _
       (λ w. takes (8 + 4 * getD t (0 + 1) 0))
       (λ w. (omega arith, omega arith))
 
-  an-array : (width size : ℕ) → Holds (length t) (arrayAt t 0 width size)
+  pub an-array : (width size : ℕ) → Holds (length t) (arrayAt t 0 width size)
   unfolding arrayAt
   an-array width size =
       either (Holds (length t)) (eqb size 0) _ _ (λ e. takes 0)
       (λ e. either (Holds (length t)) (eqb width 0) _ _ (λ z. (omega arith, omega arith))
       (λ z. either (Holds (length t)) (eqb (size % width) 0) _ _ (λ r. takes size) (λ r. (omega arith, omega arith))))
 
-  a-text : (n : ℕ) → Inside (length t) (countedAt t 0 n then asText)
+  pub a-text : (n : ℕ) → Inside (length t) (countedAt t 0 n then asText)
   a-text n =
       either (λ a. Inside (length t) (a then (λ _ next. given (viewOf 0 (unitsOf (bytesOf t 0 (2 * n)))) next) then asText)) (within t 0 (2 * n)) _ _
       (λ w. (omega arith, leb-true (0 + 2 * n) (length t) w))

@@ -59,7 +59,7 @@ placeOf (Text v) = v .part .start
 placeOf (Number p) = p .start
 placeOf (Bytes p) = p .start
 
--- the sums of `moved` are numbers of 64 bits
+-- the sums of `moved` are numbers of 64 bits: what the functions ask for that move what was read
 abbrev pub Movable : ℕ → Answer Content → Type 0
 Movable start (given x next) = (start + placeOf x < 2 ^ 64) × (start + next < 2 ^ 64)
 Movable start (refused number place) = start + place < 2 ^ 64

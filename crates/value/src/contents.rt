@@ -1,5 +1,6 @@
-// What a value holds, by its type. `rest` is the part of the stream from the value to the stream's end: each read is a read of the cursor
-// at the beginning of `rest`, and `moved` then puts what was read where it stands in the stream.
+// What a value holds, by its type. `rest` is the part of the stream from the value to the stream's end, which starts at `start` in the
+// stream: each read is a read of the cursor at the beginning of `rest`, and what was read is moved by `start`. It is moved as soon as it is
+// read: a caller who asks for the end alone then pays for nothing else.
 use crate::Content;
 use crate::Kind;
 use cursor::Cursor;
@@ -10,13 +11,14 @@ use cursor::Text;
 use cursor::View;
 ghost use mathlib.Core.Path.{_≡_};
 ghost use Prim.Native.Nat.{_+_, _^_, _<_};
+ghost use lib.ListN.{length};
 ghost use Rattle.cursor.specs.Answer as Answer;
 ghost use Rattle.cursor.specs.Answer.{_then_};
 ghost use Rattle.cursor.specs.Answers.{takenAnswer, textAnswer};
 ghost use Rattle.cursor.specs.Reads.{partMoved};
 ghost use Rattle.cursor.specs.Text.{viewMoved};
-ghost use Rattle.value.specs.Value.{asBytes, asNumber, asText, placed, moved, tellsLength, toldIn, takesSize, sizeTIn, notRead, sizedIn};
-ghost use Rattle.value.specs.Pieces.{contentAnswer, fixedIn, bySizeIn, placeOf, Movable};
+ghost use Rattle.value.specs.Value.{asBytes, asNumber, asText, moved, tellsLength, toldIn, takesSize, sizeTIn, notRead, sizedIn};
+ghost use Rattle.value.specs.Pieces.{contentAnswer, fixedIn, bySizeIn, Movable};
 
 // What was read of a value, before its size is looked at again.
 pub enum ContentRead {
@@ -38,32 +40,34 @@ pub(crate) fn tells(code: u8) -> bool
 }
 
 // What such a type reads.
-pub(crate) fn told(rest: &[u8], code: u8) -> ContentRead
-    ensures { λ r. ⌜ contentAnswer r ≡ toldIn (now (rest .entry)) code ⌝ }
+pub(crate) fn told(rest: &[u8], start: usize, code: u8) -> ContentRead
+    requires { ⌜ start + length (now rest) < 2 ^ 64 ⌝ }
+    ensures { λ r. ⌜ contentAnswer r ≡ moved start (toldIn (now (rest .entry)) code) ⌝ }
 {
     let width = Kind::width(code);
-    let c = Cursor { at: 0 };
     if 0 < width {
-        return fixed(rest, width);
+        return fixed(rest, start, width);
     }
     if code == Kind::SID {
-        return bytes(c.read_sid(rest));
+        let c = Cursor { at: 0 };
+        return bytes(c.read_sid(rest), start);
     }
-    ContentRead::Read(Content::Nothing, c)
+    ContentRead::Read(Content::Nothing, Cursor { at: start })
 }
 
 // What a type reads with a size.
-pub(crate) fn sized(rest: &[u8], code: u8, size: usize) -> ContentRead
-    ensures { λ r. ⌜ contentAnswer r ≡ sizedIn (now (rest .entry)) code size ⌝ }
+pub(crate) fn sized(rest: &[u8], start: usize, code: u8, size: usize) -> ContentRead
+    requires { ⌜ start + length (now rest) < 2 ^ 64 ⌝ }
+    ensures { λ r. ⌜ contentAnswer r ≡ moved start (sizedIn (now (rest .entry)) code size) ⌝ }
 {
-    let c = Cursor { at: 0 };
     if tells(code) {
-        return told(rest, code);
+        return told(rest, start, code);
     }
     if code == Kind::STRING {
-        return text(c.utf16_by_char_count(rest, size / 2));
+        let c = Cursor { at: 0 };
+        return text(c.utf16_by_char_count(rest, size / 2), start);
     }
-    by_size(rest, code, size)
+    by_size(rest, start, code, size)
 }
 
 // The refusal of a type that is not read: 8 if it is known, else 7.
@@ -77,31 +81,14 @@ pub(crate) fn not_read(code: u8) -> u8
     }
 }
 
-// What was read of the part, where it stands in the stream in which the part starts at `start`.
-pub(crate) fn moved(got: ContentRead, start: usize) -> ContentRead
-    requires { ⌜ Movable start (contentAnswer got) ⌝ }
-    ensures { λ r. ⌜ contentAnswer r ≡ moved start (contentAnswer got) ⌝ }
+// A part, a view, a position and a refusal in the stream.
+fn part_moved(p: Part, by: usize) -> Part
+    requires { ⌜ by + p .start < 2 ^ 64 ⌝ }
+    ensures { λ r. ⌜ r ≡ partMoved by p ⌝ }
 {
-    match got {
-        ContentRead::Read(content, next) => ContentRead::Read(
-            placed(content, start),
-            Cursor {
-                at: start + next.at,
-            },
-        ),
-        ContentRead::Refused(r) => refused(r.number, start + r.place),
-    }
-}
-
-fn placed(content: Content, start: usize) -> Content
-    requires { ⌜ start + placeOf content < 2 ^ 64 ⌝ }
-    ensures { λ r. ⌜ r ≡ placed start content ⌝ }
-{
-    match content {
-        Content::Nothing => Content::Nothing,
-        Content::Text(v) => Content::Text(view_moved(v, start)),
-        Content::Number(p) => Content::Number(part_moved(p, start)),
-        Content::Bytes(p) => Content::Bytes(part_moved(p, start)),
+    Part {
+        start: by + p.start,
+        len: p.len,
     }
 }
 
@@ -114,16 +101,6 @@ fn view_moved(v: View, by: usize) -> View
     there
 }
 
-fn part_moved(p: Part, by: usize) -> Part
-    requires { ⌜ by + p .start < 2 ^ 64 ⌝ }
-    ensures { λ r. ⌜ r ≡ partMoved by p ⌝ }
-{
-    Part {
-        start: by + p.start,
-        len: p.len,
-    }
-}
-
 fn refused(number: u8, place: usize) -> ContentRead
     ensures { λ r. ⌜ contentAnswer r ≡ Answer.refused number place ⌝ }
 {
@@ -133,70 +110,95 @@ fn refused(number: u8, place: usize) -> ContentRead
     })
 }
 
-fn bytes(got: Taken) -> ContentRead
-    ensures { λ r. ⌜ contentAnswer r ≡ (takenAnswer got then asBytes) ⌝ }
+fn bytes(got: Taken, start: usize) -> ContentRead
+    requires { ⌜ Movable start (takenAnswer got then asBytes) ⌝ }
+    ensures { λ r. ⌜ contentAnswer r ≡ moved start (takenAnswer got then asBytes) ⌝ }
 {
     match got {
-        Taken::Bytes(p, next) => ContentRead::Read(Content::Bytes(p), next),
-        Taken::Refused(r) => ContentRead::Refused(r),
+        Taken::Bytes(p, next) => ContentRead::Read(
+            Content::Bytes(part_moved(p, start)),
+            Cursor {
+                at: start + next.at,
+            },
+        ),
+        Taken::Refused(r) => refused(r.number, start + r.place),
     }
 }
 
-fn number(got: Taken) -> ContentRead
-    ensures { λ r. ⌜ contentAnswer r ≡ (takenAnswer got then asNumber) ⌝ }
+fn number(got: Taken, start: usize) -> ContentRead
+    requires { ⌜ Movable start (takenAnswer got then asNumber) ⌝ }
+    ensures { λ r. ⌜ contentAnswer r ≡ moved start (takenAnswer got then asNumber) ⌝ }
 {
     match got {
-        Taken::Bytes(p, next) => ContentRead::Read(Content::Number(p), next),
-        Taken::Refused(r) => ContentRead::Refused(r),
+        Taken::Bytes(p, next) => ContentRead::Read(
+            Content::Number(part_moved(p, start)),
+            Cursor {
+                at: start + next.at,
+            },
+        ),
+        Taken::Refused(r) => refused(r.number, start + r.place),
     }
 }
 
-pub(crate) fn text(got: Text) -> ContentRead
-    ensures { λ r. ⌜ contentAnswer r ≡ (textAnswer got then asText) ⌝ }
+fn text(got: Text, start: usize) -> ContentRead
+    requires { ⌜ Movable start (textAnswer got then asText) ⌝ }
+    ensures { λ r. ⌜ contentAnswer r ≡ moved start (textAnswer got then asText) ⌝ }
 {
     match got {
-        Text::Units(v, next) => ContentRead::Read(Content::Text(v), next),
-        Text::Refused(r) => ContentRead::Refused(r),
+        Text::Units(v, next) => ContentRead::Read(
+            Content::Text(view_moved(v, start)),
+            Cursor {
+                at: start + next.at,
+            },
+        ),
+        Text::Refused(r) => refused(r.number, start + r.place),
     }
 }
 
 // A width of 16 bytes is no number's.
-fn fixed(rest: &[u8], width: usize) -> ContentRead
-    ensures { λ r. ⌜ contentAnswer r ≡ fixedIn (now (rest .entry)) width ⌝ }
+fn fixed(rest: &[u8], start: usize, width: usize) -> ContentRead
+    requires { ⌜ start + length (now rest) < 2 ^ 64 ⌝ }
+    ensures { λ r. ⌜ contentAnswer r ≡ moved start (fixedIn (now (rest .entry)) width) ⌝ }
 {
     let c = Cursor { at: 0 };
     let got = c.take_bytes(rest, width);
-    if width == 16 { bytes(got) } else { number(got) }
+    if width == 16 {
+        bytes(got, start)
+    } else {
+        number(got, start)
+    }
 }
 
-fn by_size(rest: &[u8], code: u8, size: usize) -> ContentRead
-    ensures { λ r. ⌜ contentAnswer r ≡ bySizeIn (now (rest .entry)) code size ⌝ }
+fn by_size(rest: &[u8], start: usize, code: u8, size: usize) -> ContentRead
+    requires { ⌜ start + length (now rest) < 2 ^ 64 ⌝ }
+    ensures { λ r. ⌜ contentAnswer r ≡ moved start (bySizeIn (now (rest .entry)) code size) ⌝ }
 {
     let c = Cursor { at: 0 };
     if takes_size(code) {
-        return bytes(c.take_bytes(rest, size));
+        return bytes(c.take_bytes(rest, size), start);
     }
     if code == Kind::SIZE_T {
-        return size_t(rest, size);
+        return size_t(rest, start, size);
     }
     let width = Kind::element_width(code);
     if 0 < width {
-        return bytes(c.read_array(rest, width, size));
+        return bytes(c.read_array(rest, width, size), start);
     }
-    refused(not_read(code), 0)
+    refused(not_read(code), start)
 }
 
-fn size_t(rest: &[u8], size: usize) -> ContentRead
-    ensures { λ r. ⌜ contentAnswer r ≡ sizeTIn (now (rest .entry)) size ⌝ }
+fn size_t(rest: &[u8], start: usize, size: usize) -> ContentRead
+    requires { ⌜ start + length (now rest) < 2 ^ 64 ⌝ }
+    ensures { λ r. ⌜ contentAnswer r ≡ moved start (sizeTIn (now (rest .entry)) size) ⌝ }
 {
     let c = Cursor { at: 0 };
     if size == 4 {
-        return number(c.take_bytes(rest, 4));
+        return number(c.take_bytes(rest, 4), start);
     }
     if size == 8 {
-        return number(c.take_bytes(rest, 8));
+        return number(c.take_bytes(rest, 8), start);
     }
-    refused(Refusal::TYPE_NOT_READ, 0)
+    refused(Refusal::TYPE_NOT_READ, start)
 }
 
 fn takes_size(code: u8) -> bool

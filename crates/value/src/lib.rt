@@ -8,14 +8,18 @@ use cursor::Cursor;
 use cursor::Part;
 use cursor::ReadU8;
 use cursor::Refusal;
+use cursor::Text;
 use cursor::View;
 ghost use mathlib.Core.Path.{_≡_};
 ghost use Prim.Native.Nat.{_≤_};
 ghost use lib.ListN.{length};
+ghost use mathlib.Core.Bool.{false};
 ghost use Rattle.cursor.specs.Answer as Answer;
+ghost use Rattle.cursor.specs.Answer.{_then_};
+ghost use Rattle.cursor.specs.Text.{prefixedAt};
 ghost use Rattle.value.specs.Kinds.{codes, knownCode, widthOf, elementWidthOf};
 ghost use Rattle.value.specs.Scalar.{decodingAnswer, decodedOf};
-ghost use Rattle.value.specs.Value.{valueAnswer, sizedAt, unsizedAt};
+ghost use Rattle.value.specs.Value.{valueAnswer, asText, sizedAt, unsizedAt};
 ghost use Rattle.value.specs.Pieces.{contentAnswer, valued, passed, passedTo, afterType};
 
 // By how much an array's code is above its element's.
@@ -270,8 +274,8 @@ pub fn read_sized(rest: &[u8], start: usize, code: u8, size: u16) -> ValueRead
     }
     let end = start + rest.len();
     let target = start + size as usize;
-    let got = contents::sized(rest, code, size as usize);
-    passed(code, start, contents::moved(got, start), end, target)
+    let got = contents::sized(rest, start, code, size as usize);
+    passed(code, start, got, end, target)
 }
 
 // Reads a value without a size at the cursor: its type, and what that reads.
@@ -363,12 +367,20 @@ fn after_type(code: u8, c: Cursor, s: &[u8]) -> ValueRead
 {
     let at = c.at;
     if contents::tells(code) {
-        let got = contents::told(&s[at..], code);
-        return valued(code, at, contents::moved(got, at));
+        return valued(code, at, contents::told(&s[at..], at, code));
     }
     if code == Kind::STRING {
-        let got = c.len_prefixed_utf16_string(s, false);
-        return valued(code, at, contents::text(got));
+        return valued(code, at, string(c, s));
     }
     refused(contents::not_read(code), at)
+}
+
+// A count, and as many units.
+fn string(c: Cursor, s: &[u8]) -> ContentRead
+    ensures { λ r. ⌜ contentAnswer r ≡ (prefixedAt (now (s .entry)) (c .at) false then asText) ⌝ }
+{
+    match c.len_prefixed_utf16_string(s, false) {
+        Text::Units(v, next) => ContentRead::Read(Content::Text(v), next),
+        Text::Refused(r) => ContentRead::Refused(r),
+    }
 }

@@ -1,13 +1,7 @@
 -- `after_type` meets its contract: what tells its length, a string, or a refusal. Assumes nothing.
 use borrow.Author.Tests.{eq-eqb, ne-eqb}
-use mathlib.Core.Path.{sym, subst, _∙_}
-use native.Mathlib.Omega.{arith}
-use Prim.Native.Nat.{_+_, _^_, _<_}
-use lib.ListN.{length, drop, length-drop}
+use mathlib.Core.Path.{sym, _∙_}
 use Rattle.cursor.proofs.Units.{tail}
-use Rattle.value.specs.Value.{toldIn}
-use Rattle.value.specs.Pieces.{Movable}
-use Rattle.value.proofs.Inside.{told-inside, movable}
 use borrow.Author.Needs.{needs}
 use Rattle.value.proofs.after_type.Statement.{statement}
 use Rattle.value.proofs.after_type.Tie as tie
@@ -27,30 +21,20 @@ part-told-end c = search needs
 told-requires : tie.Need-told-requires
 told-requires c κs = search needs
 
-moved-requires : tie.Need-moved-requires
-moved-requires c κs =
-    let a = c .before .before .before .before .before .args in
-    let t = drop (a .c .at) (a .s .now) in
-    let h : a .c .at + length t < 2 ^ 64 = simp length-drop (omega arith) in
-    subst (Movable (a .c .at)) (sym (rw (tail (a .s .now) (a .c .at)) at (c .told .ensures))) (movable (a .c .at) (length t) (toldIn t (a .code)) (told-inside t (a .code)) h)
-
 valued-requires : tie.Need-valued-requires
 valued-requires c κs = search needs
 
 returns : tie.Need-returns
-returns c = simp (sym (c .before .before .before .before .before .tells .ensures) ∙ c .before .before .before .before .if1 .taken, c .valued .ensures, c .before .moved .ensures, c .before .before .told .ensures, tail)
+returns c = simp (sym (c .before .before .before .before .tells .ensures) ∙ c .before .before .before .if1 .taken, c .valued .ensures, c .before .told .ensures, tail)
 
-len-prefixed-utf16-string-requires : tie.Need-len-prefixed-utf16-string-requires
-len-prefixed-utf16-string-requires c κs = search needs
-
-text-requires : tie.Need-text-requires
-text-requires c κs = search needs
+string-requires : tie.Need-string-requires
+string-requires c κs = search needs
 
 valued-requires-2 : tie.Need-valued-requires-2
 valued-requires-2 c κs = search needs
 
 returns-2 : tie.Need-returns-2
-returns-2 c = simp (sym (c .before .before .before .before .before .tells .ensures) ∙ c .before .before .before .before .if1 .left, eq-eqb _ _ (c .before .before .before .if2 .taken), c .valued2 .ensures, c .before .text .ensures, c .before .before .len-prefixed-utf16-string .ensures)
+returns-2 c = simp (sym (c .before .before .before .before .tells .ensures) ∙ c .before .before .before .if1 .left, eq-eqb _ _ (c .before .before .if2 .taken), c .valued2 .ensures, c .before .string .ensures)
 
 not-read-requires : tie.Need-not-read-requires
 not-read-requires c κs = search needs
@@ -70,11 +54,9 @@ after-type-spec =
     part-told-start
     part-told-end
     told-requires
-    moved-requires
     valued-requires
     returns
-    len-prefixed-utf16-string-requires
-    text-requires
+    string-requires
     valued-requires-2
     returns-2
     not-read-requires

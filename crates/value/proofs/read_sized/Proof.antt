@@ -2,11 +2,8 @@
 use borrow.Author.Tests.{lt-ltb, le-ltb}
 use native.Mathlib.Omega.{arith}
 use Prim.Native.Nat.{_+_, _^_}
-use mathlib.Core.Path.{sym, subst}
 use lib.ListN.{length}
-use Rattle.value.specs.Value.{sizedIn, sizedAt}
-use Rattle.value.specs.Pieces.{Movable}
-use Rattle.value.proofs.Inside.{sized-inside, movable}
+use Rattle.value.specs.Value.{sizedAt}
 use borrow.Author.Needs.{needs}
 use Rattle.value.proofs.read_sized.Statement.{statement}
 use Rattle.value.proofs.read_sized.Tie as tie
@@ -44,19 +41,14 @@ add-target c = search needs
 sized-requires : tie.Need-sized-requires
 sized-requires c κs = search needs
 
-moved-requires : tie.Need-moved-requires
-moved-requires c κs =
-    let a = c .before .before .before .before .args in
-    subst (Movable (a .start)) (sym (c .sized .ensures)) (movable (a .start) (length (a .rest .now)) (sizedIn (a .rest .now) (a .code) (a .size)) (sized-inside (a .rest .now) (a .code) (a .size)) (omega arith))
-
 passed-requires : tie.Need-passed-requires
 passed-requires c κs = search needs
 
 returns-3 : tie.Need-returns-3
 unfolding sizedAt
 returns-3 c =
-    let a = c .before .before .before .before .before .before .args in
-    simp (lt-ltb (a .start + length (a .rest .now) + a .size) (2 ^ 64) (omega arith), c .passed .ensures, c .before .moved .ensures, c .before .before .sized .ensures)
+    let a = c .before .before .before .before .before .args in
+    simp (lt-ltb (a .start + length (a .rest .now) + a .size) (2 ^ 64) (omega arith), c .passed .ensures, c .before .sized .ensures)
 
 pub read-sized-spec : {M : Type 1} → statement M
 read-sized-spec =
@@ -71,6 +63,5 @@ read-sized-spec =
     add-end
     add-target
     sized-requires
-    moved-requires
     passed-requires
     returns-3)

@@ -1,6 +1,13 @@
 -- `by_size` meets its contract: bytes, a SIZE_T, an array, or a refusal. Assumes nothing.
 use mathlib.Core.Path.{sym, _∙_}
 use borrow.Author.Tests.{lt-ltb, le-ltb, eq-eqb, ne-eqb}
+use native.Mathlib.Omega.{arith}
+use native.Mathlib.Nat.{add-zero}
+use lib.ListN.{length}
+use Rattle.cursor.specs.Answer.{_then_}
+use Rattle.cursor.specs.Reads.{takeAt, arrayAt}
+use Rattle.value.specs.Value.{asBytes}
+use Rattle.value.proofs.Inside.{as-bytes, takes, an-array, movable}
 use borrow.Author.Needs.{needs}
 use Rattle.value.proofs.contents.by_size.Statement.{statement}
 use Rattle.value.proofs.contents.by_size.Tie as tie
@@ -12,7 +19,9 @@ take-bytes-requires : tie.Need-take-bytes-requires
 take-bytes-requires c κs = search needs
 
 bytes-requires : tie.Need-bytes-requires
-bytes-requires c κs = search needs
+bytes-requires c κs =
+    let a = c .before .before .before .before .args in
+    rw (c .take-bytes .ensures) (movable (a .start) (length (a .rest .now)) (takeAt (a .rest .now) 0 (a .size) then asBytes) (as-bytes (length (a .rest .now)) (takeAt (a .rest .now) 0 (a .size)) (takes (a .rest .now) (a .size))) (omega arith))
 
 returns : tie.Need-returns
 returns c = simp (sym (c .before .before .before .takes-size .ensures) ∙ c .before .before .if1 .taken, c .bytes .ensures, c .before .take-bytes .ensures)
@@ -30,7 +39,10 @@ read-array-requires : tie.Need-read-array-requires
 read-array-requires c κs = search needs
 
 bytes-requires-2 : tie.Need-bytes-requires-2
-bytes-requires-2 c κs = search needs
+bytes-requires-2 c κs =
+    let a = c .before .before .before .before .before .before .before .args in
+    let w = c .before .before .element-width .result in
+    rw (c .read-array .ensures) (movable (a .start) (length (a .rest .now)) (arrayAt (a .rest .now) 0 w (a .size) then asBytes) (as-bytes (length (a .rest .now)) (arrayAt (a .rest .now) 0 w (a .size)) (an-array (a .rest .now) w (a .size))) (omega arith))
 
 returns-3 : tie.Need-returns-3
 returns-3 c =
@@ -46,7 +58,7 @@ refused-requires c κs = search needs
 returns-4 : tie.Need-returns-4
 returns-4 c =
     let e = c .before .before .before .before in
-    simp (sym (e .before .before .takes-size .ensures) ∙ e .before .if1 .left, ne-eqb _ _ (e .if2 .left), sym (c .before .before .before .element-width .ensures), le-ltb _ _ (c .before .before .if3 .left), c .refused .ensures, c .before .not-read .ensures)
+    simp (sym (e .before .before .takes-size .ensures) ∙ e .before .if1 .left, ne-eqb _ _ (e .if2 .left), sym (c .before .before .before .element-width .ensures), le-ltb _ _ (c .before .before .if3 .left), c .refused .ensures, c .before .not-read .ensures, add-zero)
 
 pub by-size-spec : {M : Type 1} → statement M
 by-size-spec =

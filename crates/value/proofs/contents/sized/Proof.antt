@@ -1,6 +1,13 @@
 -- `sized` meets its contract: what tells its length, a string, or the rest. Assumes nothing.
 use mathlib.Core.Path.{sym, _∙_}
 use borrow.Author.Tests.{eq-eqb, ne-eqb}
+use native.Mathlib.Omega.{arith}
+use lib.ListN.{length}
+use Rattle.cursor.specs.Answer.{_then_}
+use Prim.Native.Nat.{_/_}
+use Rattle.cursor.specs.Text.{countedAt}
+use Rattle.value.specs.Value.{asText}
+use Rattle.value.proofs.Inside.{a-text, movable}
 use borrow.Author.Needs.{needs}
 use Rattle.value.proofs.contents.sized.Statement.{statement}
 use Rattle.value.proofs.contents.sized.Tie as tie
@@ -18,7 +25,9 @@ utf16-by-char-count-requires : tie.Need-utf16-by-char-count-requires
 utf16-by-char-count-requires c κs = search needs
 
 text-requires : tie.Need-text-requires
-text-requires c κs = search needs
+text-requires c κs =
+    let a = c .before .before .before .before .before .args in
+    rw (c .utf16-by-char-count .ensures) (movable (a .start) (length (a .rest .now)) (countedAt (a .rest .now) 0 (a .size / 2) then asText) (a-text (a .rest .now) (a .size / 2)) (omega arith))
 
 returns-2 : tie.Need-returns-2
 returns-2 c = simp (sym (c .before .before .before .before .tells .ensures) ∙ c .before .before .before .if1 .left, eq-eqb _ _ (c .before .before .if2 .taken), c .text .ensures, c .before .utf16-by-char-count .ensures)
