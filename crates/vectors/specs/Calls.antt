@@ -19,7 +19,7 @@ use Rattle.chunk.specs.Walk.{startOf}
 use Rattle.chunk.specs.declared.Place.the-variants as P
 use Rattle.tokens.specs.Instance.{valuesOf, nextOf}
 use Rattle.tokens.specs.Single.{endsOf}
-use Rattle.tokens.specs.Walk.{countedOf}
+use Rattle.tokens.specs.Walk.{walkOf, countedOf}
 use Rattle.tokens.specs.declared.Flags.{Flags}
 use Rattle.doortumble.specs.Calls.{packedOf}
 use Rattle.checksum_call.specs.Said.{saidOf}
@@ -73,6 +73,9 @@ pub record Calls : Type 0 where
   pub unknown : unsizedAt (0x16 ∷ []) 0 ≡ refused 7 1
   -- `sheet::count`: the end byte is no token
   pub tokens : countedOf (walkOn (whole emptyElement)) ≡ gives 2
+  -- `tokens::step`: the last token may run over; the header after a token is no part of it
+  pub last : countedOf (walkOf emptyElement 0 1 plainly) ≡ gives 1
+  pub before-header : walkText (0x02 ∷ 0x0F ∷ 1 ∷ 1 ∷ 0 ∷ 0x04 ∷ []) 0 6 plainly ≡ ascii "0 1 3\n5 1 5\nok 2\n"
   -- `Values::of`: the values begin where the instance says, not at their descriptors
   pub values : valuesOf (record { id = 0; offset = 0; guid = part 0 0; table = 14; count = 1; values = 18 }) .at ≡ 18
   -- `Values::next`: where none is left, done, whatever the stream holds
