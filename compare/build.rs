@@ -131,6 +131,8 @@ fn modules(printed: &Path, ours: &Path) -> String {
 
     let mut text = String::new();
     text += &by_path("err.rs", "pub mod err;");
+    text += &by_path("evtx_file_header.rs", "mod evtx_file_header;");
+    text += &by_path("evtx_parser.rs", "mod evtx_parser;");
     text += &by_path("evtx_record.rs", "mod evtx_record;");
     text += &by_path("string_cache.rs", "mod string_cache;");
     text += &by_path("utils/mod.rs", "mod utils;");

@@ -41,6 +41,7 @@ bool nothing_lent()
 {
     bool so = true;
 
+    so &= refuses("no bytes are no file", doortumble_list_file(nullptr, 0, 1, nullptr, 0), DOORTUMBLE_WRONG_FILE, 0);
     so &= refuses("no bytes are no chunk", doortumble_list(nullptr, 0, 1, nullptr, 0), DOORTUMBLE_WRONG_LENGTH, 0);
     so &= counts("no bytes have no token", doortumble_sheet(nullptr, 0, 0, 0, 0, 0, nullptr, 0), 0);
     so &= refuses("no bytes are no body", doortumble_owners(nullptr, 0, 0, 0, 0, 0, nullptr, 0), DOORTUMBLE_UNFINISHED, 0);
@@ -83,11 +84,33 @@ bool flags()
     return so;
 }
 
+// A file header that ends where its first chunk would begin, and one with two bytes behind it.
+bool whole_file()
+{
+    uint8_t file[130] = {'E', 'l', 'f', 'F', 'i', 'l', 'e', 0};
+    uint64_t rows[7] = {untouched, untouched, untouched, untouched, untouched, untouched, untouched};
+    bool so = true;
+
+    file[40] = 128;
+    so &= refuses("127 bytes are no file", doortumble_list_file(file, 127, 1, rows, 7), DOORTUMBLE_WRONG_FILE, 0);
+    so &= counts("no chunk and no rest", doortumble_list_file(file, 128, 1, nullptr, 0), 0);
+    so &= refuses("a row has six words", doortumble_list_file(file, 130, 1, rows, 5), DOORTUMBLE_NO_ROOM, 6);
+    so &= holds("a refusal leaves the rows", rows[0] == untouched);
+    so &= counts("the rest has a row", doortumble_list_file(file, 130, 1, rows, 7), 1);
+    so &= holds("the rest's chunk", doortumble_file_row_at(rows, 0).chunk == 128 && doortumble_first_chunk(file) == 128);
+    const doortumble_row row = doortumble_file_row_at(rows, 0).row;
+    so &= holds("the rest's row", row.item == DOORTUMBLE_ROW_REFUSED && row.offset == 0 && row.size == DOORTUMBLE_WRONG_LENGTH &&
+                                      row.id == 0 && row.filetime == 0);
+    so &= holds("a word past the rows stays", rows[6] == untouched);
+    so &= holds("words for a file", doortumble_file_words(0) == 27870 && doortumble_file_words(65536) == 55740);
+    return so;
+}
+
 } // namespace
 
 int main()
 {
-    const bool so[] = {nothing_lent(), empty_element(), flags()};
+    const bool so[] = {nothing_lent(), empty_element(), flags(), whole_file()};
 
-    return so[0] && so[1] && so[2] ? 0 : 1;
+    return so[0] && so[1] && so[2] && so[3] ? 0 : 1;
 }

@@ -1,8 +1,9 @@
 #!/usr/bin/env python3
-"""make_sample.py OUT - make the chunk that the example program is run on (examples/sample.chunk).
+"""make_sample.py CHUNK LOG - make the chunk and the log file that the example program is run on (examples/sample.chunk,
+examples/sample.evtx).
 
-It is a controller's journal of tag writes, sound and damaged: each record below says what it is there to show. The same bytes
-come out on every run. A token is a function that writes itself into a record.
+Both are a controller's journal of tag writes, sound and damaged: each record and each chunk below says what it is there to show.
+The same bytes come out on every run. A token is a function that writes itself into a record.
 """
 import struct
 import sys
@@ -10,6 +11,7 @@ import uuid
 import zlib
 
 CHUNK, FIRST = 65536, 512
+BLOCK = 4096                                         # of the file's header, as Windows writes it
 STRING, REAL, TIME = 0x01, 0x0C, 0x11                # types of values
 THREE = 133813836000000000                           # FILETIME of 2025-01-15, three in the morning
 TEMPLATE = uuid.UUID("5c0a1f7e-3d52-4b7a-9a10-2f6e8d41c0b3").bytes_le
@@ -29,8 +31,9 @@ def name_hash(text):
 class Chunk:
     """Records one behind the other, and the tables of the names and templates that they bring."""
 
-    def __init__(self):
+    def __init__(self, first=1):
         self.bytes = bytearray(CHUNK)
+        self.first = first                           # the first record's number in the log
         self.end = FIRST                             # where the next record goes
         self.last = 0                                # where the last one went
         self.ids = []
@@ -54,7 +57,8 @@ class Chunk:
     def seal(self):
         """The chunk's header, with both checksums."""
         b = self.bytes
-        struct.pack_into("<8sQQQQ", b, 0, b"ElfChnk\0", 1, len(self.ids), self.ids[0], self.ids[-1])
+        struct.pack_into("<8sQQQQ", b, 0, b"ElfChnk\0", self.first, self.first + len(self.ids) - 1,
+                         self.ids[0], self.ids[-1])
         struct.pack_into("<III", b, 40, 128, self.last, self.end)
         struct.pack_into("<I", b, 52, zlib.crc32(b[FIRST:self.end]))
         struct.pack_into("<64I32I", b, 128, *self.strings, *self.templates)
@@ -234,8 +238,37 @@ def sample():
     return bytes(c.bytes)
 
 
+# ------------------------------------------------------------------------------------------------------------------ chunks
+def sound():
+    """A chunk in which everything can be read."""
+    c = Chunk(first=9)
+    c.live(109, HEADER, element("TagWrite", [("tag", text("FIC-101.SP"))], element("After", [], real(47.75))), END)
+    c.live(110, HEADER, element("Synced", []), END)
+    c.seal()
+    return bytes(c.bytes)
+
+
+def cut():
+    """A chunk whose second half the disk never got."""
+    c = Chunk(first=11)
+    c.live(111, HEADER, element("TagWrite", [("tag", text("FIC-101.SP"))], element("After", [], real(48.0))), END)
+    c.seal()
+    return bytes(c.bytes[:1512])
+
+
+def log():
+    # the damaged chunk; one of zeros, never written (4); a sound one, which neither of them keeps from being read; the rest (1)
+    chunks = [sample(), bytes(CHUNK), sound(), cut()]
+    header = bytearray(BLOCK)
+    struct.pack_into("<8sQQQIHHHH", header, 0, b"ElfFile\0", 0, 2, 112, 128, 1, 3, BLOCK, 3)
+    struct.pack_into("<I", header, 120, 1)           # it was not closed
+    struct.pack_into("<I", header, 124, zlib.crc32(header[0:120]))
+    return b"".join([bytes(header), *chunks])
+
+
 if __name__ == "__main__":
-    if len(sys.argv) != 2:
-        sys.exit("usage: make_sample.py OUT")
-    with open(sys.argv[1], "wb") as out:
-        out.write(sample())
+    if len(sys.argv) != 3:
+        sys.exit("usage: make_sample.py CHUNK LOG")
+    for path, made in zip(sys.argv[1:], (sample, log)):
+        with open(path, "wb") as out:
+            out.write(made())

@@ -1,8 +1,8 @@
-// records: print the records of one chunk of a Windows event log, with their tokens and whom each belongs to.
+// records: print the records of a Windows event log, a whole file or one chunk of it, with their tokens and whom each belongs to.
 //
 // The example of the C calls, made to be copied: it lends buffers that are always enough, reads each live record by its owner
-// table and its sheet, and keeps three things apart that must not be mixed up: a chunk with something unreadable in it, an input
-// that is no chunk, and a buffer that was lent too short, which is a bug of the caller.
+// table and its sheet, and keeps three things apart that must not be mixed up: a log with something unreadable in it, an input
+// that is no log, and a buffer that was lent too short, which is a bug of the caller.
 #include <errno.h>
 #include <inttypes.h>
 #include <stdio.h>
@@ -11,10 +11,10 @@
 
 #include "doortumble.h"
 
-// The buffers' lengths in words, always enough for any chunk: so nothing is asked for twice, and the same buffers serve chunk
-// after chunk. They can be set from outside only so that a test can see what is said of a short one.
+// The buffers' lengths in words, always enough: so nothing is asked for twice, and the same sheet and owner table serve record
+// after record. They can be set from outside only so that a test can see what is said of a short one.
 #ifndef ROWS_LEN
-#define ROWS_LEN (DOORTUMBLE_MOST_ROWS * DOORTUMBLE_ROW_WORDS)
+#define ROWS_LEN(bytes) doortumble_file_words(bytes) // enough for a chunk's rows too
 #endif
 #ifndef SHEET_LEN
 #define SHEET_LEN DOORTUMBLE_MOST_TOKENS
@@ -26,15 +26,18 @@
 enum status {
     ALL_READ = 0,
     SOME_REFUSED = 1,
-    NO_CHUNK = 2,
+    NO_LOG = 2,
     SHORT_BUFFER = 3,
     FAILED = 4
 };
 
-// What is lent to the calls. It has about a megabyte, so it goes to the heap and not to the stack.
-struct lent {
-    uint8_t chunk[DOORTUMBLE_CHUNK_BYTES + 1]; // a byte more, so that an input that is too long shows
-    uint64_t rows[ROWS_LEN];
+// What is read, and what is lent to the calls. All of it goes to the heap: a log may be as large as the disk.
+struct job {
+    const char *name; // of the input, for a person
+    uint8_t *bytes;
+    size_t length;
+    uint64_t *rows;
+    size_t rows_len;
     uint64_t sheet[SHEET_LEN];
     uint32_t owners[OWNERS_LEN];
 };
@@ -42,7 +45,7 @@ struct lent {
 struct counts {
     unsigned live;
     unsigned carved;
-    unsigned refused; // records that the walk could not read
+    unsigned refused; // records that the walk could not read, and chunks that are none
     unsigned unread;  // live records whose stream is no event body
 };
 
@@ -50,78 +53,113 @@ static void print_help(void)
 {
     fputs("usage: records [FILE]\n"
           "\n"
-          "Reads one chunk of a Windows event log from FILE, or from standard input where no FILE is named, and\n"
-          "prints its records. A log file is a header of 4,096 bytes and then chunks of 65,536 bytes. This cuts out\n"
-          "the first chunk; for the second, skip 17 in place of 1, then 33, and so on:\n"
+          "Reads a Windows event log from FILE, or from standard input where no FILE is named, and prints its records.\n"
+          "It takes a whole log file, or one chunk of it: what begins with \"ElfChnk\" is a chunk.\n"
+          "\n"
+          "Where the start of a log file is lost, its chunks can still be read: a log file is a header of 4,096 bytes\n"
+          "and then chunks of 65,536 bytes. This cuts out the first chunk; for the second, skip 17 in place of 1, then\n"
+          "33, and so on:\n"
           "\n"
           "    dd if=LOG of=CHUNK bs=4096 skip=1 count=16\n"
           "\n"
           "What a line begins with:\n"
+          "    chunk     of a log file: where the chunk begins in the file, in bytes\n"
           "    live      a record that belongs to the chunk; below it stand its tokens, each indented below the\n"
           "              token that owns it, or one line that begins with 'refused'\n"
           "    carved    an old record, found where no live one stands: not part of the log any more\n"
           "    refused   something that cannot be read: the refusal's number, its place, and what happened\n"
-          "    done      the counts: live records, carved ones, records refused, and live records whose tokens\n"
-          "              were refused ('unread'). Without this line the output is not complete\n"
+          "    done      the counts: chunks of a log file, live records, carved ones, what was refused, and live\n"
+          "              records whose tokens were refused ('unread'). Without this line the output is not complete\n"
           "Places are bytes from the start of the chunk; tokens are numbered from 0.\n"
           "\n"
           "Exit status:\n"
           "    0  everything was read\n"
-          "    1  something in the chunk was refused; the rest was read\n"
-          "    2  the input is no chunk\n"
+          "    1  something in the log was refused; the rest was read\n"
+          "    2  the input is neither a log file nor a chunk\n"
           "    3  a buffer was too short: a bug in this program, not in the input\n"
-          "    4  wrong usage, or the input could not be read or the output not be written\n",
+          "    4  wrong usage, no memory, or the input could not be read or the output not be written\n",
           stdout);
 }
 
 // ---------------------------------------------------------------------------------------------------------------- input
 
-// Reads a file, or standard input where path is null: at most `room` bytes, and how many there were.
-static enum status read_input(const char *path, uint8_t *bytes, size_t room, size_t *length)
+static enum status tell_no_memory(const struct job *job, size_t bytes)
 {
-    const char *name = path == NULL ? "standard input" : path;
+    fprintf(stderr, "records: there is no memory for the %zu bytes that %s needs. End other programs and run again.\n", bytes,
+            job->name);
+    return FAILED;
+}
+
+// Reads all that there is, into a buffer that doubles when it is full.
+static enum status read_all(struct job *job, FILE *in)
+{
+    size_t room = DOORTUMBLE_CHUNK_BYTES;
+    size_t got;
+
+    do {
+        uint8_t *more = realloc(job->bytes, 2 * room);
+
+        if (more == NULL)
+            return tell_no_memory(job, 2 * room);
+        job->bytes = more;
+        room *= 2;
+        got = fread(job->bytes + job->length, 1, room - job->length, in);
+        job->length += got;
+    } while (job->length == room);
+    if (!ferror(in))
+        return ALL_READ;
+    fprintf(stderr, "records: cannot read %s: %s. Nothing was listed; see that it can be read and run again.\n", job->name,
+            strerror(errno));
+    return FAILED;
+}
+
+// Reads a file, or standard input where path is null.
+static enum status read_input(struct job *job, const char *path)
+{
     FILE *in = path == NULL ? stdin : fopen(path, "rb");
-    int failed;
-    int reason;
+    enum status status;
 
     if (in == NULL) {
-        fprintf(stderr, "records: cannot open %s: %s. Name a file that holds one chunk.\n", name, strerror(errno));
+        fprintf(stderr, "records: cannot open %s: %s. Name a log file, or a file that holds one chunk.\n", job->name,
+                strerror(errno));
         return FAILED;
     }
-    *length = fread(bytes, 1, room, in);
-    failed = ferror(in);
-    reason = errno;
+    status = read_all(job, in);
     if (in != stdin)
         fclose(in); // it was only read, so there is nothing to lose here
-    if (failed) {
-        fprintf(stderr, "records: cannot read %s: %s. Nothing was listed; see that it can be read and run again.\n", name,
-                strerror(reason));
-        return FAILED;
-    }
-    return ALL_READ;
+    return status;
 }
 
 // ------------------------------------------------------------------------------------------------------------- refusals
 
-// A refusal of what is in the chunk is part of the listing.
-static void print_refusal(unsigned number, uint64_t place)
+// A refusal of what is in the log is part of the listing.
+static void print_refusal(unsigned number, uint64_t place, const char *why)
 {
-    printf("refused %u %s %" PRIu64 ": %s\n", number, doortumble_place_is(number), place, doortumble_why(number));
+    printf("refused %u %s %" PRIu64 ": %s\n", number, doortumble_place_is(number), place, why);
 }
 
-static enum status tell_no_chunk(uint64_t answer, size_t length)
+static enum status tell_no_chunk(const struct job *job, uint64_t answer)
 {
-    unsigned number = doortumble_number(answer);
+    fprintf(stderr,
+            "records: %s is no chunk (refusal %u): it begins like one, but a chunk has %d bytes and this has %zu. Cut one chunk"
+            " out of a log as 'records --help' shows, or name the log file itself.\n",
+            job->name, doortumble_number(answer), DOORTUMBLE_CHUNK_BYTES, job->length);
+    return NO_LOG;
+}
 
-    fprintf(stderr, "records: the input is no chunk (refusal %u): ", number);
-    if (number != DOORTUMBLE_WRONG_LENGTH)
-        fputs(doortumble_why(number), stderr);
-    else if (length > DOORTUMBLE_CHUNK_BYTES)
-        fprintf(stderr, "a chunk has %d bytes and the input has more", DOORTUMBLE_CHUNK_BYTES);
-    else
-        fprintf(stderr, "a chunk has %d bytes and the input has %zu", DOORTUMBLE_CHUNK_BYTES, length);
-    fputs(". Cut one chunk out of a log as 'records --help' shows.\n", stderr);
-    return NO_CHUNK;
+static enum status tell_no_file(const struct job *job, uint64_t answer)
+{
+    size_t n;
+
+    fprintf(stderr, "records: %s is no log (refusal %u): it has %zu bytes", job->name, doortumble_number(answer), job->length);
+    if (job->length > 0)
+        fputs(" and begins with", stderr);
+    for (n = 0; n < 8 && n < job->length; n++)
+        fprintf(stderr, " %02X", (unsigned)job->bytes[n]);
+    fputs(". A log file has 128 at least and begins with 45 6C 66 46 69 6C 65 00 (\"ElfFile\" and a zero). Name the .evtx file"
+          " itself; if its start was overwritten, cut out its chunks as 'records --help' shows.\n",
+          stderr);
+    return NO_LOG;
 }
 
 static enum status tell_short_buffer(const char *what, size_t words, uint64_t answer)
@@ -192,15 +230,15 @@ static void print_number(doortumble_token token)
         printf(" number %u%s", token.number, token.flag ? " optional" : "");
 }
 
-static void print_token(const struct lent *lent, uint64_t n)
+static void print_token(const struct job *job, uint64_t n)
 {
-    doortumble_token token = doortumble_token_of(lent->sheet[n]);
+    doortumble_token token = doortumble_token_of(job->sheet[n]);
 
     // One step below the record's own line, and one more for each level.
-    printf("%*s%s %" PRIu64 " place %" PRIu32 " length %" PRIu32 " owner ", 2 + 2 * level_of(lent->owners, n), "",
+    printf("%*s%s %" PRIu64 " place %" PRIu32 " length %" PRIu32 " owner ", 2 + 2 * level_of(job->owners, n), "",
            kind_name(token.kind), n, token.place, token.length);
-    if (doortumble_has_owner(lent->owners[n]))
-        printf("%" PRIu32, doortumble_owner(lent->owners[n]));
+    if (doortumble_has_owner(job->owners[n]))
+        printf("%" PRIu32, doortumble_owner(job->owners[n]));
     else
         putchar('-');
     print_number(token);
@@ -212,16 +250,18 @@ static void print_token(const struct lent *lent, uint64_t n)
 // A refused answer for a record's stream: a line of the listing, or our own bug.
 static enum status print_unread(const char *what, size_t words, uint64_t answer)
 {
-    if (doortumble_number(answer) == DOORTUMBLE_NO_ROOM)
+    unsigned number = doortumble_number(answer);
+
+    if (number == DOORTUMBLE_NO_ROOM)
         return tell_short_buffer(what, words, answer);
     fputs("  ", stdout);
-    print_refusal(doortumble_number(answer), doortumble_place(answer));
+    print_refusal(number, doortumble_place(answer), doortumble_why(number));
     return SOME_REFUSED;
 }
 
 // The tokens of a live record. The stream is the whole chunk, since names are offsets in the chunk. The open tokens of a record
 // carry no dependency (only those of template definitions do), and its names are not inline.
-static enum status print_tokens(struct lent *lent, doortumble_row row)
+static enum status print_tokens(struct job *job, const uint8_t *chunk, doortumble_row row)
 {
     uint32_t start = doortumble_payload_start(row);
     uint32_t length = doortumble_payload_length(row);
@@ -229,14 +269,14 @@ static enum status print_tokens(struct lent *lent, doortumble_row row)
     uint64_t n;
 
     // The owner table first: it is refused wherever the sheet is, and also where the tokens are no event body.
-    answer = doortumble_owners(lent->chunk, DOORTUMBLE_CHUNK_BYTES, start, length, 0, 0, lent->owners, OWNERS_LEN);
+    answer = doortumble_owners(chunk, DOORTUMBLE_CHUNK_BYTES, start, length, 0, 0, job->owners, OWNERS_LEN);
     if (doortumble_refused(answer))
         return print_unread("owner table", OWNERS_LEN, answer);
-    answer = doortumble_sheet(lent->chunk, DOORTUMBLE_CHUNK_BYTES, start, length, 0, 0, lent->sheet, SHEET_LEN);
+    answer = doortumble_sheet(chunk, DOORTUMBLE_CHUNK_BYTES, start, length, 0, 0, job->sheet, SHEET_LEN);
     if (doortumble_refused(answer))
         return print_unread("sheet", SHEET_LEN, answer);
     for (n = 0; n < doortumble_count(answer); n++)
-        print_token(lent, n);
+        print_token(job, n);
     return ALL_READ;
 }
 
@@ -246,7 +286,27 @@ static void print_record(const char *item, doortumble_row row)
            row.filetime);
 }
 
-static enum status print_row(struct lent *lent, doortumble_row row, struct counts *counts)
+// Whether a chunk is all zeros, as a log keeps its last ones in stock.
+static int is_unwritten(const uint8_t *chunk)
+{
+    return chunk[0] == 0 && memcmp(chunk, chunk + 1, DOORTUMBLE_CHUNK_BYTES - 1) == 0;
+}
+
+// A refused row: the offset is the refusal's place, the size its number. Only a file's rest is refused 1, and only a chunk, which
+// then has all its bytes, 4 at 0: records begin at 512.
+static void print_refused(const uint8_t *chunk, doortumble_row row)
+{
+    unsigned number = (unsigned)row.size;
+    const char *why = doortumble_why(number);
+
+    if (number == DOORTUMBLE_WRONG_LENGTH)
+        why = "the file ends in the middle of this chunk: it was cut, or its copy stopped early";
+    else if (number == DOORTUMBLE_WRONG_MAGIC && row.offset == 0 && is_unwritten(chunk))
+        why = "this chunk is all zeros: nothing was written here yet, or it was wiped";
+    print_refusal(number, row.offset, why);
+}
+
+static enum status print_row(struct job *job, const uint8_t *chunk, doortumble_row row, struct counts *counts)
 {
     enum status status = ALL_READ;
 
@@ -254,60 +314,121 @@ static enum status print_row(struct lent *lent, doortumble_row row, struct count
     case DOORTUMBLE_ROW_LIVE:
         counts->live++;
         print_record("live", row);
-        status = print_tokens(lent, row);
+        status = print_tokens(job, chunk, row);
         counts->unread += status == SOME_REFUSED;
         break;
     case DOORTUMBLE_ROW_CARVED:
         counts->carved++;
         print_record("carved", row);
         break;
-    default: // refused: the offset is the refusal's place, the size its number
+    default:
         counts->refused++;
-        print_refusal((unsigned)row.size, row.offset);
+        print_refused(chunk, row);
         status = SOME_REFUSED;
         break;
     }
     return status;
 }
 
-static enum status print_chunk(struct lent *lent, size_t length)
+// The last line, and what to do about refusals.
+static enum status print_done(const struct job *job, const struct counts *counts)
+{
+    unsigned refusals = counts->refused + counts->unread;
+
+    printf("live %u carved %u refused %u unread %u\n", counts->live, counts->carved, counts->refused, counts->unread);
+    if (refusals == 0)
+        return ALL_READ;
+    fprintf(stderr,
+            "records: %u refusals in %s. Merge nothing from what was refused; the lines with 'refused' say where and why.\n",
+            refusals, job->name);
+    return SOME_REFUSED;
+}
+
+// ------------------------------------------------------------------------------------------------------- chunk and file
+
+static enum status print_chunk(struct job *job)
 {
     struct counts counts = {0, 0, 0, 0};
-    uint64_t answer = doortumble_list(lent->chunk, length, 1, lent->rows, ROWS_LEN);
+    uint64_t answer = doortumble_list(job->bytes, job->length, 1, job->rows, job->rows_len);
     uint64_t n;
 
     if (doortumble_number(answer) == DOORTUMBLE_NO_ROOM)
-        return tell_short_buffer("rows", ROWS_LEN, answer);
+        return tell_short_buffer("rows", job->rows_len, answer);
     if (doortumble_refused(answer))
-        return tell_no_chunk(answer, length);
+        return tell_no_chunk(job, answer);
     for (n = 0; n < doortumble_count(answer); n++)
-        if (print_row(lent, doortumble_row_at(lent->rows, n), &counts) == SHORT_BUFFER)
+        if (print_row(job, job->bytes, doortumble_row_at(job->rows, n), &counts) == SHORT_BUFFER)
             return SHORT_BUFFER;
-    printf("done live %u carved %u refused %u unread %u\n", counts.live, counts.carved, counts.refused, counts.unread);
-    if (counts.refused + counts.unread == 0)
-        return ALL_READ;
-    fprintf(stderr,
-            "records: %u refusals. Merge nothing from the records that were refused; the lines with 'refused' say where and why.\n",
-            counts.refused + counts.unread);
-    return SOME_REFUSED;
+    fputs("done ", stdout);
+    return print_done(job, &counts);
+}
+
+// The rows come in the order of the chunks. A chunk without a row, since it holds no record, has its line all the same.
+static enum status print_file(struct job *job)
+{
+    struct counts counts = {0, 0, 0, 0};
+    uint64_t answer = doortumble_list_file(job->bytes, job->length, 1, job->rows, job->rows_len);
+    uint64_t n = 0;
+    unsigned chunks = 0;
+    size_t at;
+
+    if (doortumble_number(answer) == DOORTUMBLE_NO_ROOM)
+        return tell_short_buffer("rows", job->rows_len, answer);
+    if (doortumble_refused(answer))
+        return tell_no_file(job, answer);
+    for (at = doortumble_first_chunk(job->bytes); at < job->length; at += DOORTUMBLE_CHUNK_BYTES) {
+        printf("chunk offset %zu\n", at);
+        chunks++;
+        for (; n < doortumble_count(answer) && doortumble_file_row_at(job->rows, n).chunk == at; n++)
+            if (print_row(job, job->bytes + at, doortumble_file_row_at(job->rows, n).row, &counts) == SHORT_BUFFER)
+                return SHORT_BUFFER;
+    }
+    if (chunks == 0)
+        fprintf(stderr,
+                "records: %s holds no chunk: it has %zu bytes, and its first chunk would begin at %" PRIu32
+                ". If the log had records, its copy stopped early: fetch it again.\n",
+                job->name, job->length, doortumble_first_chunk(job->bytes));
+    printf("done chunks %u ", chunks);
+    return print_done(job, &counts);
 }
 
 // -------------------------------------------------------------------------------------------------------------- program
 
+// A chunk is told by its first bytes; all else has to be a log file.
+static enum status print_input(struct job *job)
+{
+    if (job->length >= 8 && memcmp(job->bytes, "ElfChnk", 8) == 0)
+        return print_chunk(job);
+    return print_file(job);
+}
+
+static enum status list_input(struct job *job, const char *path)
+{
+    enum status status = read_input(job, path);
+
+    if (status != ALL_READ)
+        return status;
+    job->rows_len = ROWS_LEN(job->length);
+    job->rows = malloc(job->rows_len * sizeof *job->rows);
+    if (job->rows == NULL)
+        return tell_no_memory(job, job->rows_len * sizeof *job->rows);
+    return print_input(job);
+}
+
 static enum status run(const char *path)
 {
-    struct lent *lent = malloc(sizeof *lent);
-    size_t length = 0;
+    struct job *job = calloc(1, sizeof *job);
     enum status status;
 
-    if (lent == NULL) {
-        fprintf(stderr, "records: there is no memory for %zu bytes. End other programs and run again.\n", sizeof *lent);
+    if (job == NULL) {
+        fprintf(stderr, "records: there is no memory for %zu bytes. End other programs and run again.\n", sizeof *job);
         return FAILED;
     }
-    status = read_input(path, lent->chunk, sizeof lent->chunk, &length);
-    if (status == ALL_READ)
-        status = print_chunk(lent, length);
-    free(lent);
+    job->name = path == NULL ? "standard input" : path;
+    status = list_input(job, path);
+    free(job->rows);
+    free(job->bytes);
+    free(job);
     return status;
 }
 

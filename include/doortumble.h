@@ -1,14 +1,16 @@
 // doortumble.h: read Windows event logs from C (C99 or later) or C++.
 //
-// Three calls over what the caller lends:
+// Four calls over what the caller lends:
 //
-//   doortumble_list     the records of a chunk, five words a row
-//   doortumble_sheet    the tokens of a record's stream, a word a token
-//   doortumble_owners   which token each token belongs to, where the stream is one event body
+//   doortumble_list_file   the records of a whole log file, six words a row
+//   doortumble_list        the records of a chunk, five words a row
+//   doortumble_sheet       the tokens of a record's stream, a word a token
+//   doortumble_owners      which token each token belongs to, where the stream is one event body
 //
-// To read a record of a chunk, hand its row to doortumble_owners and doortumble_sheet like this: the stream is the WHOLE chunk,
-// since names are offsets in the chunk; start and length are doortumble_payload_start and doortumble_payload_length of the row;
-// both flags are 0, since the open tokens of a record carry no dependency and its names are not inline.
+// To read a record, hand its row to doortumble_owners and doortumble_sheet like this: the stream is the WHOLE chunk, since names
+// are offsets in the chunk (of a file: the 65,536 bytes from the row's chunk on); start and length are doortumble_payload_start
+// and doortumble_payload_length of the row; both flags are 0, since the open tokens of a record carry no dependency and its
+// names are not inline.
 // examples/records.c does just that.
 //
 // Of every call:
@@ -32,7 +34,8 @@ extern "C" {
 // ---------------------------------------------------------------------------------------------------------------- sizes
 
 #define DOORTUMBLE_CHUNK_BYTES 65536  // a chunk has exactly these; a stream has no more
-#define DOORTUMBLE_ROW_WORDS 5        // words in a row of a listing
+#define DOORTUMBLE_ROW_WORDS 5        // words in a row of a chunk's listing
+#define DOORTUMBLE_FILE_ROW_WORDS 6   // words in a row of a file's listing
 #define DOORTUMBLE_MOST_ROWS 4645     // no chunk has more rows
 #define DOORTUMBLE_MOST_TOKENS 65536  // no stream has more tokens: each is a byte at least
 
@@ -40,7 +43,7 @@ extern "C" {
 
 // What a refusal's number means, and what its place is then.
 enum {
-    DOORTUMBLE_WRONG_LENGTH = 1,    // chunk not 65,536 bytes, or stream longer than that; place: 0
+    DOORTUMBLE_WRONG_LENGTH = 1,    // chunk not 65,536 bytes (a file's rest), or stream longer than that; place: 0
     DOORTUMBLE_PAST_END = 2,        // position set past the stream's end; place: that position
     DOORTUMBLE_TOO_FEW_BYTES = 3,   // too few bytes for a read; place: where the read starts (a record: its offset)
     DOORTUMBLE_WRONG_MAGIC = 4,     // chunk or record magic wrong; place: the header's offset
@@ -56,7 +59,8 @@ enum {
     DOORTUMBLE_TOO_DEEP = 14,       // opens level 65; place: token number
     DOORTUMBLE_UNFINISHED = 15,     // body unfinished; place: count of tokens
     DOORTUMBLE_NO_ROOM = 16,        // lent words too few; place: words needed
-    DOORTUMBLE_SIZE_COPY = 17       // a record's size copy differs; place: the record's offset (no call here answers it)
+    DOORTUMBLE_SIZE_COPY = 17,      // a record's size copy differs; place: the record's offset (no call here answers it)
+    DOORTUMBLE_WRONG_FILE = 18      // fewer than 128 bytes, or wrong file magic; place: 0
 };
 
 // Why, in words, for the person who has to act on it.
@@ -97,12 +101,14 @@ static inline const char *doortumble_why(unsigned number)
         return "the words lent are too few: lend as many as the place says";
     case DOORTUMBLE_SIZE_COPY:
         return "a record's two sizes disagree: its end was overwritten";
+    case DOORTUMBLE_WRONG_FILE:
+        return "this is no event log file: it has fewer than 128 bytes, or does not begin with \"ElfFile\" and a zero";
     default:
         return "there is no such refusal: this header does not belong to the library that was linked";
     }
 }
 
-// What the place of a refusal counts, in a word: "offset" (bytes from the start of the chunk or stream), "token" (a token's
+// What the place of a refusal counts, in a word: "offset" (bytes from the start of the chunk, stream or file), "token" (a token's
 // number, from 0), "tokens" (how many there are) or "words" (how many are needed).
 static inline const char *doortumble_place_is(unsigned number)
 {
@@ -151,7 +157,7 @@ static inline uint64_t doortumble_count(uint64_t answer)
 
 // List a chunk: walk its records from the first to the last and, with recovery, look for old ones where no live one stands.
 //
-//   chunk, chunk_len   the bytes of one chunk, 65,536 of them (a log file is a header of 4,096 bytes and then chunks)
+//   chunk, chunk_len   the bytes of one chunk, 65,536 of them
 //   recovery           not 0: carve old records too; 0: do not
 //   rows, rows_len     lent for the rows, and their length in words; DOORTUMBLE_MOST_ROWS * DOORTUMBLE_ROW_WORDS is always
 //                      enough
@@ -203,6 +209,57 @@ static inline uint32_t doortumble_payload_start(doortumble_row row)
 static inline uint32_t doortumble_payload_length(doortumble_row row)
 {
     return row.size < 28 ? 0 : (row.size - 28) & 0xFFFFFFFF;
+}
+
+// ------------------------------------------------------------------------------------------------------------- the file
+
+// List a whole log file: its chunks one after the other to the end of the file, each as doortumble_list lists it.
+//
+//   file, file_len   the bytes of the file, all of them, from its header on
+//   recovery         not 0: carve old records too; 0: do not
+//   rows, rows_len   lent for the rows, and their length in words. doortumble_file_words(file_len) words are always enough, and
+//                    then the file is gone through once; with fewer its rows are counted first, which takes as long again
+//
+// Answer: how many rows were written, or a refusal: 18 where this is no log file, then 16 where the rows are too short (its
+// place is the words needed, so a call with 0 words asks for them). What cannot be read within the file is no refusal of the
+// call: it has a row of its own, and nothing in one chunk changes the rows of another.
+//   - A chunk that does not begin like one (overwritten, or zeros that were never written) has one row: refused 4 at 0.
+//   - Where the file ends in the middle of a chunk, that rest has one row: refused 1 at 0.
+//   - A chunk without records has no row, and a file that ends at or before its first chunk has none at all.
+// The first chunk begins at doortumble_first_chunk, the next ones each 65,536 bytes on. How many chunks the header says there
+// are, and whether its checksum is right, decides nothing.
+//
+// A refusal leaves the rows as they were; words past the last row stay. Nothing is kept or allocated, at most 1 MiB of stack is
+// needed, and a null pointer with length 0 is allowed.
+uint64_t doortumble_list_file(const uint8_t *file, size_t file_len, uint32_t recovery, uint64_t *rows, size_t rows_len);
+
+// Words that hold every row that a file of this length can have: the most rows for each begun 65,536 bytes. That is 3.4 times
+// the file's own size; an ordinary log fills a small part of it, and memory that is not written to costs little.
+static inline size_t doortumble_file_words(size_t file_len)
+{
+    return (file_len / DOORTUMBLE_CHUNK_BYTES + 1) * DOORTUMBLE_MOST_ROWS * DOORTUMBLE_FILE_ROW_WORDS;
+}
+
+// Where the first chunk of a file begins: what the header calls its block size, at 40. Only where the call did not refuse 18.
+static inline uint32_t doortumble_first_chunk(const uint8_t *file)
+{
+    return file[40] + 256u * file[41];
+}
+
+typedef struct doortumble_file_row {
+    uint64_t chunk;     // offset in the file of the chunk that the row is about
+    doortumble_row row; // as in the chunk's own listing: offsets count from the chunk's start
+} doortumble_file_row;
+
+// Row n, counted from 0, of the rows that doortumble_list_file wrote.
+static inline doortumble_file_row doortumble_file_row_at(const uint64_t *rows, uint64_t n)
+{
+    const uint64_t *words = rows + n * DOORTUMBLE_FILE_ROW_WORDS;
+    doortumble_file_row row;
+
+    row.chunk = words[0];
+    row.row = doortumble_row_at(words + 1, 0);
+    return row;
 }
 
 // ------------------------------------------------------------------------------------------------------------ the sheet

@@ -42,8 +42,11 @@ pub use standins::{
 
 // What the printed crate's own root and its left out modules hold.
 pub use evtx_chunk::{EvtxChunk, EvtxChunkData, EvtxChunkHeader};
+pub use evtx_file_header::{EvtxFileHeader, HeaderFlags};
+pub use evtx_parser::{EvtxParser, ParserSettings};
+pub use evtx_record::EvtxRecord;
 #[doc(hidden)]
-pub use standins::{guid::Guid, model, mta, parser as evtx_parser, parser::ParserSettings};
+pub use standins::{guid::Guid, model, mta};
 
 pub type ChunkOffset = u32;
 pub type AnsiCodec = &'static Encoding;

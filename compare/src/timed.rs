@@ -1,5 +1,5 @@
-//! The printed Rust as the benchmark calls it: the record walk into rows, the token walk into a
-//! sheet.
+//! The printed Rust as the benchmark calls it: the record walk into rows, of a chunk or of all chunks of
+//! a file, and the token walk into a sheet.
 //!
 //! Each stands behind a call of the C ABI that is never inlined, as the port's calls do. What the
 //! printed code wants beside the bytes is made before the clock starts: the opened chunk, and the
@@ -10,6 +10,7 @@ use crate::binxml::tokens::{Stream, TokenSink, walk_tokens};
 use crate::binxml::value_variant::BinXmlValue;
 use crate::err::{EvtxError, Result as EvtxResult};
 use crate::evtx_chunk::{RawRecord, chunk_header_crc, raw_walk};
+use crate::oracle::file::{self, Header};
 use crate::oracle::kinds;
 use crate::oracle::refusal::Refusal;
 use crate::oracle::tokens::Asked;
@@ -45,6 +46,21 @@ pub fn list(chunk: &[u8], recovery: bool) -> Call<'_> {
     let chunk = raw_walk::bare_chunk(chunk, header, recovery);
     // SAFETY: the words are lent for the call.
     Box::new(move |rows| unsafe { list_into(black_box(&chunk), rows.as_mut_ptr(), rows.len()) })
+}
+
+/// The record walks of all chunks of a file in memory, one after the other, six words an answer. Each of
+/// them is opened before.
+pub fn list_file(file: &[u8], recovery: bool) -> Call<'_> {
+    let header = Header::read(file).expect("a sound file");
+    let open = |(offset, chunk)| {
+        let header: &EvtxChunkHeader = Box::leak(Box::new(header_of(chunk)));
+        (offset as u64, raw_walk::bare_chunk(chunk, header, recovery))
+    };
+    let chunks: Vec<(u64, EvtxChunk<'_>)> = file::chunks(file, &header).map(open).collect();
+    // SAFETY: the words are lent for the call.
+    Box::new(move |rows| unsafe {
+        list_file_into(black_box(&chunks), rows.as_mut_ptr(), rows.len())
+    })
 }
 
 /// Whether a chunk's header has the checksum that it stores: 1 or 0.
@@ -125,6 +141,34 @@ unsafe extern "C" fn list_into(chunk: &EvtxChunk<'_>, rows: *mut u64, len: usize
             Err(err) => refused_row(&err),
         };
         count += 1;
+    }
+    count as u64
+}
+
+/// # Safety
+/// `rows` is good for `len` words.
+#[inline(never)]
+unsafe extern "C" fn list_file_into(
+    chunks: &Vec<(u64, EvtxChunk<'_>)>,
+    rows: *mut u64,
+    len: usize,
+) -> u64 {
+    // SAFETY: as the caller says.
+    let rows: &mut [[u64; 6]] = unsafe { from_raw_parts_mut(rows, len) }.as_chunks_mut().0;
+    let mut count = 0;
+    for (offset, chunk) in chunks {
+        for answer in chunk.iter_raw() {
+            let Some(row) = rows.get_mut(count) else {
+                return refused(Refusal::new(16, 0));
+            };
+            let words = match answer {
+                Ok(raw) => row_of(chunk, &raw),
+                Err(err) => refused_row(&err),
+            };
+            row[0] = *offset;
+            row[1..].copy_from_slice(&words);
+            count += 1;
+        }
     }
     count as u64
 }

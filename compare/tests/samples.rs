@@ -192,7 +192,7 @@ fn header_checksum() {
 fn bad_cases() {
     assert_eq!(answers(&case(b'X', 0, 0, 0, &[])), "bad case\n");
     assert_eq!(answers(&case(b'P', 0, 0, 0, &[0; 39])), "bad case\n");
-    assert_eq!(answers(&case(b'T', 0, 0, 0, &[0; 131_073])), "bad case\n");
+    assert_eq!(answers(&case(b'T', 0, 0, 0, &[0; 331_777])), "bad case\n");
     assert_eq!(answers(&case(b'S', 0, 0, 0, &[0; 2])[..15]), "bad case\n");
     assert_eq!(answers(&case(b'S', 0, 0, 0, &[])[..13]), "bad case\n");
     assert_eq!(answers(&[]), "");

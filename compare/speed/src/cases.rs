@@ -5,8 +5,10 @@ use crate::port;
 use compare::oracle::owners::{self, MOST_LEVELS};
 use compare::timed::{self, Call, TOLD};
 
-/// Words that are enough for every answer.
+/// Words that are enough for every answer on a chunk or a stream.
 pub const ROOM: usize = 65536;
+/// Words for each begun 65,536 bytes of a file: as many rows as a chunk has at most, of six words.
+const FILE_ROOM: usize = 4645 * 6;
 
 /// Who is called.
 #[derive(Clone, Copy, PartialEq, Eq)]
@@ -36,6 +38,7 @@ impl Side {
 pub enum Kind {
     Checksum,
     List { recovery: bool },
+    File { recovery: bool },
     Sheet,
     Owners,
 }
@@ -43,6 +46,7 @@ pub enum Kind {
 /// What it is called on.
 pub enum Input {
     Chunk(Vec<u8>),
+    File(Vec<u8>),
     Stream(Stream),
 }
 
@@ -55,6 +59,14 @@ pub struct Case {
 }
 
 impl Case {
+    /// Words that are enough for every answer, so that a file is walked once.
+    pub fn room(&self) -> usize {
+        match &self.input {
+            Input::File(file) => (file.len() / 65536 + 1) * FILE_ROOM,
+            _ => ROOM,
+        }
+    }
+
     /// The sides of the case. Only the record walk searches and only the header has a checksum, so the rest has no
     /// stand-in's figure.
     pub fn sides(&self) -> impl Iterator<Item = Side> {
@@ -76,18 +88,23 @@ impl Case {
                 Side::StandIn => timed::list(chunk, recovery),
                 Side::Port => port::list(chunk, recovery),
             },
+            (Kind::File { recovery }, Input::File(file)) => match side {
+                Side::Rust => compare_vector::timed::list_file(file, recovery),
+                Side::StandIn => timed::list_file(file, recovery),
+                Side::Port => port::list_file(file, recovery),
+            },
             (kind, Input::Stream(Stream { bytes, asked })) => match side {
                 Side::Port if kind == Kind::Owners => port::owners(bytes, *asked),
                 Side::Port => port::sheet(bytes, *asked),
                 _ => timed::sheet(bytes, *asked),
             },
-            _ => unreachable!("chunks are listed, and streams are not"),
+            _ => unreachable!("chunks and files are listed, and streams are not"),
         }
     }
 
     /// What a side answers, and its words.
     fn answer(&self, side: Side) -> (u64, Vec<u64>) {
-        let mut words = vec![0; ROOM];
+        let mut words = vec![0; self.room()];
         (self.call(side)(&mut words), words)
     }
 
@@ -147,6 +164,13 @@ pub fn all() -> Vec<Case> {
         goal: Some(1.0),
         input: Input::Chunk(chunk),
     };
+    // The goal is for 16 MB.
+    let file = |name, recovery, chunks| Case {
+        name,
+        kind: Kind::File { recovery },
+        goal: (chunks == 256).then_some(if recovery { 1.0 } else { 0.5 }),
+        input: Input::File(inputs::log(chunks)),
+    };
     let stream = |name, kind, stream| Case {
         name,
         kind,
@@ -174,6 +198,12 @@ pub fn all() -> Vec<Case> {
         chunk("search: all 2A", true, repeated(&[0x2a])),
         chunk("search: 2A2A0001", true, repeated(&[0x2a, 0x2a, 0, 1])),
         chunk("search: 2A2A0000", true, repeated(&[0x2a, 0x2a, 0, 0])),
+        file("file: 1 chunk", false, 1),
+        file("file: 16 chunks", false, 16),
+        file("file: 256 chunks", false, 256),
+        file("file: 1, recovery", true, 1),
+        file("file: 16, recovery", true, 16),
+        file("file: 256, recovery", true, 256),
         stream("sheet: elements", Sheet, elements(false, false)),
         stream("sheet: dependencies", Sheet, elements(true, false)),
         stream("sheet: inline names", Sheet, elements(false, true)),

@@ -5,6 +5,8 @@ use compare::cases::random::Random;
 use compare::oracle::tokens::Asked;
 
 const CHUNK: usize = 65536;
+/// Of a file's header, as Windows writes it.
+const BLOCK: usize = 4096;
 /// Where records start.
 const FIRST: usize = 512;
 /// About as long as the long streams are.
@@ -31,15 +33,57 @@ pub fn records(size: usize, live: bool) -> Vec<u8> {
     let free = if live { end } else { FIRST };
     let mut chunk = bare_chunk(count as u64, end - size, free);
     for (id, record) in (1_u64..).zip(chunk[FIRST..end].chunks_exact_mut(size)) {
-        let stored = (size as u32).to_le_bytes();
-        record.fill(b'x');
-        record[..4].copy_from_slice(&MAGIC);
-        record[4..8].copy_from_slice(&stored);
-        record[8..16].copy_from_slice(&id.to_le_bytes());
-        record[16..24].copy_from_slice(&(FILETIME + id * 12_345).to_le_bytes());
-        record[size - 4..].copy_from_slice(&stored);
+        put_record(record, id);
     }
     chunk
+}
+
+fn put_record(record: &mut [u8], id: u64) {
+    let size = record.len();
+    let stored = (size as u32).to_le_bytes();
+    record.fill(b'x');
+    record[..4].copy_from_slice(&MAGIC);
+    record[4..8].copy_from_slice(&stored);
+    record[8..16].copy_from_slice(&id.to_le_bytes());
+    record[16..24].copy_from_slice(&(FILETIME + id * 12_345).to_le_bytes());
+    record[size - 4..].copy_from_slice(&stored);
+}
+
+/// A log of so many chunks, each full of records of 304 to 1,104 bytes, as ordinary ones are, up to where the next does not fit.
+pub fn log(chunks: usize) -> Vec<u8> {
+    let mut random = Random::new(1);
+    let mut log = vec![0; BLOCK];
+    let mut next = 1;
+    log[..8].copy_from_slice(b"ElfFile\0");
+    log[40..42].copy_from_slice(&(BLOCK as u16).to_le_bytes());
+    for _ in 0..chunks {
+        let (chunk, after) = ordinary(&mut random, next);
+        log.extend(chunk);
+        next = after;
+    }
+    log
+}
+
+/// A chunk of such a log, from this ID on, and the ID after its last.
+fn ordinary(random: &mut Random, first_id: u64) -> (Vec<u8>, u64) {
+    let mut records: Vec<(usize, usize)> = Vec::new();
+    let mut end = FIRST;
+    loop {
+        let size = 8 * random.between(38, 138);
+        if end + size > CHUNK {
+            break;
+        }
+        records.push((end, size));
+        end += size;
+    }
+    let next = first_id + records.len() as u64;
+    let last = records.last().map_or(FIRST, |(at, _)| *at);
+    let mut chunk = bare_chunk(next - 1, last, end);
+    chunk[24..32].copy_from_slice(&first_id.to_le_bytes());
+    for ((at, size), id) in records.into_iter().zip(first_id..) {
+        put_record(&mut chunk[at..at + size], id);
+    }
+    (chunk, next)
 }
 
 /// A chunk with the right checksum in its header.

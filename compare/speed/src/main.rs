@@ -2,6 +2,7 @@
 //!
 //! ```text
 //! speed                        the table
+//! speed --only TEXT            the table of the cases that have this in their name
 //! speed --smoke                every case on each side: same answers, no times
 //! speed --run SIDE CASE CALLS  so many calls of a side (rust, stand-in, port), for a profiler
 //! ```
@@ -14,8 +15,9 @@ mod clock;
 mod inputs;
 mod port;
 
-use cases::{Case, ROOM, Side};
+use cases::{Case, Input, Kind, Side};
 use clock::Timed;
+use compare::timed::Call;
 use compare_vector::timed::{self, CRC, MEMCHR};
 use std::process::ExitCode;
 use std::time::Duration;
@@ -27,13 +29,17 @@ const LONG: Duration = Duration::from_millis(600);
 fn main() -> ExitCode {
     let arguments: Vec<String> = std::env::args().skip(1).collect();
     let arguments: Vec<&str> = arguments.iter().map(String::as_str).collect();
-    let cases = cases::all();
+    let mut cases = cases::all();
     let done = match arguments[..] {
         [] => check(&cases) && table(&cases),
+        ["--only", text] => {
+            cases.retain(|case| case.name.contains(text));
+            check(&cases) && table(&cases)
+        }
         ["--smoke"] => check(&cases),
         ["--run", side, case, calls] => run(&cases, side, case, calls),
         _ => {
-            eprintln!("usage: speed [--smoke | --run SIDE CASE CALLS]");
+            eprintln!("usage: speed [--only TEXT | --smoke | --run SIDE CASE CALLS]");
             return ExitCode::from(2);
         }
     };
@@ -107,7 +113,9 @@ fn table(cases: &[Case]) -> bool {
     for _ in 0..PASSES {
         for (case, times) in cases.iter().zip(&mut all) {
             let sides: Vec<Side> = case.sides().collect();
-            let calls = sides.iter().map(|side| Timed::new(case.call(*side), ROOM));
+            let calls = sides
+                .iter()
+                .map(|side| Timed::new(case.call(*side), case.room()));
             let mut calls: Vec<Timed<'_>> = calls.collect();
             clock::rounds(&mut calls, LONG);
             for (side, timed) in sides.iter().zip(&calls) {
@@ -142,7 +150,28 @@ fn table(cases: &[Case]) -> bool {
         "Not in the Rust's figures: to open a chunk, {:.0} ns.",
         open[0].best
     );
+    plain_passes(cases);
     true
+}
+
+/// How long it takes to look at every byte of a file, and to do nothing else: a sum of its words.
+fn plain_passes(cases: &[Case]) {
+    println!();
+    println!("| a sum over the bytes of | ns | GB a second |");
+    println!("|---|--:|--:|");
+    for case in cases {
+        let (Kind::File { recovery: false }, Input::File(file)) = (case.kind, &case.input) else {
+            continue;
+        };
+        let call: Call<'_> = Box::new(|_| {
+            let words = file.as_chunks().0.iter().copied();
+            words.map(u64::from_le_bytes).fold(0, u64::wrapping_add)
+        });
+        let mut pass = [Timed::new(call, 0)];
+        clock::rounds(&mut pass, LONG);
+        let speed = file.len() as f64 / pass[0].best;
+        println!("| {} | {:.0} | {speed:.1} |", case.name, pass[0].best);
+    }
 }
 
 /// Calls one side of a case.
@@ -155,7 +184,7 @@ fn run(cases: &[Case], side: &str, name: &str, calls: &str) -> bool {
         return false;
     };
     let mut call = case.call(side);
-    let mut words = vec![1; ROOM];
+    let mut words = vec![1; case.room()];
     for _ in 0..calls {
         std::hint::black_box(call(&mut words));
     }

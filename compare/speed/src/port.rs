@@ -11,6 +11,13 @@ unsafe extern "C" {
         rows: *mut u64,
         rows_len: usize,
     ) -> u64;
+    fn doortumble_list_file(
+        file: *const u8,
+        file_len: usize,
+        recovery: u32,
+        rows: *mut u64,
+        rows_len: usize,
+    ) -> u64;
     fn doortumble_bench_checksum(chunk: *const u8, chunk_len: usize) -> u32;
     fn doortumble_sheet(
         stream: *const u8,
@@ -35,17 +42,21 @@ unsafe extern "C" {
 }
 
 pub fn list(chunk: &[u8], recovery: bool) -> Call<'_> {
+    listed(doortumble_list, chunk, recovery)
+}
+
+pub fn list_file(file: &[u8], recovery: bool) -> Call<'_> {
+    listed(doortumble_list_file, file, recovery)
+}
+
+/// A call that lists a chunk or a file into rows that it is lent.
+type Lists = unsafe extern "C" fn(*const u8, usize, u32, *mut u64, usize) -> u64;
+
+fn listed(call: Lists, bytes: &[u8], recovery: bool) -> Call<'_> {
     Box::new(move |rows| {
+        let (start, words) = (bytes.as_ptr(), rows.as_mut_ptr());
         // SAFETY: bytes and words are good for their lengths.
-        unsafe {
-            doortumble_list(
-                chunk.as_ptr(),
-                chunk.len(),
-                u32::from(recovery),
-                rows.as_mut_ptr(),
-                rows.len(),
-            )
-        }
+        unsafe { call(start, bytes.len(), u32::from(recovery), words, rows.len()) }
     })
 }
 

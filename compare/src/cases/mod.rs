@@ -3,6 +3,7 @@
 mod body_cases;
 mod chunk_cases;
 mod chunks;
+pub mod file_cases;
 pub mod lists;
 pub mod random;
 pub mod real;
@@ -28,6 +29,7 @@ pub fn make(kind: &str, seed: u64, count: usize) -> Option<Box<dyn Iterator<Item
         "types" => return Some(Box::new(types::cases().take(count))),
         "lists" => return Some(Box::new(body_cases::short_lists().take(count))),
         "chunk" => chunk_cases::of_one_chunk,
+        "file" => file_cases::of_one_file,
         "token" => token_cases::of_one_stream,
         "body" => body_cases::of_one_body,
         _ => return None,

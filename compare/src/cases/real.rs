@@ -2,6 +2,7 @@
 
 use super::Case;
 use super::chunk_cases;
+use super::file_cases::MOST;
 use super::token_cases::case;
 use crate::document::chunks::Chunk;
 use crate::document::streams;
@@ -60,6 +61,11 @@ impl fmt::Display for Counts {
 /// The cases on a log file, one chunk after the other, each handed to `put`.
 pub fn each<E>(log: &[u8], mut put: impl FnMut(Case) -> Result<(), E>) -> Result<Counts, E> {
     let mut counts = Counts::default();
+    // The file itself, as much of it as a case may have.
+    for recovery in 0..2 {
+        let whole = &log[..log.len().min(MOST)];
+        put(chunk_cases::case(b'F', recovery, 0, &[], whole))?;
+    }
     for chunk in log
         .get(FILE_HEADER..)
         .unwrap_or_default()

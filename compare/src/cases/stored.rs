@@ -3,6 +3,7 @@
 use super::Case;
 use super::chunk_cases::case;
 use super::chunks::SIZE;
+use super::file_cases;
 use super::stored_bodies;
 use super::stored_tokens;
 use crate::Hasher;
@@ -14,6 +15,7 @@ pub fn cases() -> Vec<Case> {
     cases.extend(short_chunks());
     cases.extend(stored_tokens::cases());
     cases.extend(stored_bodies::cases());
+    cases.extend(file_cases::stored());
     // No such mode: the run ends.
     cases.push(case(b'Z', 0, 0, &[], &[]));
     cases.push(case(b'H', 0, 0, &[], &[]));
@@ -78,7 +80,7 @@ fn state(words: [u64; 5]) -> Vec<u8> {
 }
 
 /// A chunk of zeros but for the magic and these bytes.
-fn chunk(parts: &[(usize, &[u8])]) -> Vec<u8> {
+pub(super) fn chunk(parts: &[(usize, &[u8])]) -> Vec<u8> {
     let mut chunk = vec![0; SIZE];
     chunk[..MAGIC.len()].copy_from_slice(MAGIC);
     for (at, bytes) in parts {
@@ -114,7 +116,7 @@ fn record(size: u32, copy: u32, id: u64, filetime: u64) -> Vec<u8> {
 /// Records 7 to 12: 8 has a late FILETIME, between it and the next live one stand a record of another
 /// time and one with a wrong copy, zeros stand after 10, the last one comes with a wrong copy, and
 /// behind the free space is a stale one.
-fn damaged() -> Vec<u8> {
+pub(super) fn damaged() -> Vec<u8> {
     const LAST_FILETIME: u64 = 2_650_466_808_009_999_999;
     let header = [(24, 7_u64), (32, 12)].map(|(at, id)| (at, id.to_le_bytes()));
     let offsets = [(44, 1200_u32), (48, 1300)].map(|(at, offset)| (at, offset.to_le_bytes()));

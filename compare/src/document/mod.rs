@@ -1,7 +1,7 @@
 //! Document 01, read a second time: its answer to every case of a batch.
 //!
 //! Written from the document's sentences, with nothing of the printed Rust and nothing of the port. It shares with the oracle
-//! only how answers are written, and the machine of mode O, which the checks hold to the grammar.
+//! only how answers are written, how document 02 cuts a file, and the machine of mode O, which the checks hold to the grammar.
 
 pub mod chunks;
 mod reader;
@@ -12,7 +12,7 @@ use crate::oracle::batch::Case;
 use crate::oracle::chunk::{Answer, State, refused, words};
 use crate::oracle::refusal::Refusal;
 use crate::oracle::tokens::{Asked, Row, push_single};
-use crate::oracle::{calls, owners};
+use crate::oracle::{calls, file, owners};
 use chunks::Chunk;
 use std::fmt::Write;
 
@@ -23,6 +23,7 @@ pub fn answer(case: &Case, out: &mut String) {
         b'H' => header(data, out),
         b'R' => record(data, u64::from(case.start), case.flag(1), out),
         b'W' => walk(data, case.flag(1), out),
+        b'F' => file::answer(data, out, |chunk, out| walk(chunk, case.flag(1), out)),
         b'P' => step(data, case.state(), out),
         b'T' => tokens(data, case.walk(), out),
         b'S' => single(data, case.start as usize, out),

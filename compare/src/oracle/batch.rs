@@ -5,11 +5,11 @@ use crate::oracle::calls::Call;
 use crate::oracle::chunk::State;
 use crate::oracle::differences::{self, Met};
 use crate::oracle::tokens::Asked;
-use crate::oracle::{calls, chunk, owners, tokens};
+use crate::oracle::{calls, chunk, file, owners, tokens};
 use std::io::{self, Read, Write};
 
 const HEAD: usize = 14;
-const DATA_LIMIT: usize = 131_072;
+const DATA_LIMIT: usize = 331_776;
 const STATE: usize = 40;
 const ROOM: usize = 4;
 
@@ -41,7 +41,7 @@ impl Case {
     /// What a mode's data has before the chunk or the stream, in bytes; `None` where there is no such mode.
     fn front(mode: u8) -> Option<usize> {
         match mode {
-            b'H' | b'R' | b'W' | b'T' | b'S' | b'O' => Some(0),
+            b'H' | b'R' | b'W' | b'F' | b'T' | b'S' | b'O' => Some(0),
             b'P' => Some(STATE),
             b'C' => Some(ROOM),
             _ => None,
@@ -177,6 +177,13 @@ fn answer(case: &Case, out: &mut String) -> Met {
         b'R' => chunk::answer_record(data, u64::from(case.start), case.flag(1), out),
         b'W' => chunk::answer_walk(data, case.flag(1), out),
         b'P' => chunk::answer_step(data, case.state(), out),
+        b'F' => {
+            let mut met = Met::new();
+            file::answer(data, out, |chunk, out| {
+                met.append(&mut chunk::answer_walk(chunk, case.flag(1), out));
+            });
+            met
+        }
         b'T' => tokens::answer_walk(data, case.walk(), out),
         b'S' => {
             tokens::answer_single(data, case.start as usize, out);

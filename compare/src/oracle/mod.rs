@@ -6,6 +6,7 @@ pub mod bodies;
 pub mod calls;
 pub mod chunk;
 pub mod differences;
+pub mod file;
 pub mod kinds;
 pub mod leaves;
 pub mod owners;

@@ -1,11 +1,12 @@
 //! Compiled templates: left out of the port. The names, and calls that do nothing.
 
 use crate::ParserSettings;
-use crate::binxml::ir::RecordContent;
-use crate::binxml::ir::TemplateContent;
+use crate::binxml::ir::{IrTemplateCache, RecordContent, TemplateContent};
+use crate::binxml::value_render::ValueRenderer;
 use crate::err::{EvtxError, Result};
 use crate::evtx_chunk::EvtxChunk;
 use crate::model::ir::IrTree;
+use std::marker::PhantomData;
 
 const LEFT_OUT: EvtxError = EvtxError::FailedToCreateRecordModel("rendering is left out");
 
@@ -45,11 +46,46 @@ pub trait TemplateProgram {
     }
 }
 
+/// A program that is kept from chunk to chunk.
+pub trait StoredProgram: TemplateProgram {
+    fn mark_recovered(_: &mut Vec<u8>, _: usize) {}
+}
+
 pub struct JsonProgram;
 pub struct XmlProgram;
 
 impl TemplateProgram for JsonProgram {}
 impl TemplateProgram for XmlProgram {}
+impl StoredProgram for JsonProgram {}
+impl StoredProgram for XmlProgram {}
+
+pub const MAX_RENDER_NODES: usize = 0;
+
+#[derive(Default)]
+pub struct Preflight;
+
+pub struct ProgramCache<P>(PhantomData<P>);
+
+impl<P> Default for ProgramCache<P> {
+    fn default() -> Self {
+        ProgramCache(PhantomData)
+    }
+}
+
+#[allow(clippy::too_many_arguments, reason = "the printed call has as many")]
+pub fn try_render_compiled<P>(
+    _: &[u8],
+    _: u64,
+    _: &EvtxChunk<'_>,
+    _: &mut IrTemplateCache<'_>,
+    _: &mut ProgramCache<P>,
+    _: &mut Preflight,
+    _: &mut ValueRenderer,
+    _: &Budget,
+    _: &mut Vec<u8>,
+) -> Result<bool> {
+    Err(LEFT_OUT)
+}
 
 pub fn try_render_validated(
     _: &TemplateContent<'_>,

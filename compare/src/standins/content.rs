@@ -41,3 +41,12 @@ pub fn build_record_content<'a>(
 ) -> Result<RecordContent<'a>> {
     Err(LEFT_OUT)
 }
+
+pub fn build_tree_from_binxml_bytes_direct<'a>(
+    _: &'a [u8],
+    _: &'a EvtxChunk<'a>,
+    _: &mut IrTemplateCache<'a>,
+    _: &Budget,
+) -> Result<IrTree<'a>> {
+    Err(LEFT_OUT)
+}

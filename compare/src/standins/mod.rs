@@ -15,5 +15,4 @@ pub mod log;
 pub mod memchr;
 pub mod model;
 pub mod mta;
-pub mod parser;
 pub mod serde_json;

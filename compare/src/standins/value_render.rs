@@ -1,4 +1,4 @@
-//! Values as text: left out of the port. The one name that value_variant.rs asks for.
+//! Values as text: left out of the port. What value_variant.rs and evtx_parser.rs ask for.
 
 use super::value_variant::SidRef;
 use crate::err::Result;
@@ -7,6 +7,10 @@ use crate::err::Result;
 pub struct ValueRenderer;
 
 impl ValueRenderer {
+    pub fn new() -> Self {
+        ValueRenderer
+    }
+
     pub fn write_sid(&mut self, _: &mut Vec<u8>, _: &SidRef<'_>) -> Result<()> {
         Ok(())
     }

@@ -1,5 +1,5 @@
 // Answers a batch of cases (docs/ANSWERS.md): cases come on standard input, their answers go to standard output. What is answered stands in
-// `chunk_answers` and `stream_answers`; this program reads the cases and finds the mode. No rule of the format stands here.
+// `chunk_answers`, `file_text` and `stream_answers`; this program reads the cases and finds the mode. No rule of the format stands here.
 use cursor::Part;
 use libc::STDIN_FILENO;
 use libc::STDOUT_FILENO;
@@ -10,10 +10,11 @@ use tokens::Flags;
 const HEAD: usize = 14;
 
 // The most data of a case.
-const MOST_DATA: usize = 131072;
+const MOST_DATA: usize = 331776;
 
-// The output's buffer, and how full it is when it is written out. The longest answer, the 65,536 words of a sheet in mode C, has some
-// 1,114,000 bytes, so that it always finds room.
+// The output's buffer, and how full it is when it is written out. The longest answers have some 1,114,000 bytes (the 65,536 words of a
+// sheet in mode C) and 1,034,000 (five chunks in mode F, each with at most 2,322 records of 72 bytes and 2,323 refusals of 17), so that
+// each finds room.
 const OUTPUT: usize = 2097152;
 
 const FULL: usize = 524288;
@@ -132,6 +133,7 @@ fn least_data(mode: u8) -> usize {
         b'R' => 0,
         b'W' => 0,
         b'P' => chunk_answers::STATE,
+        b'F' => 0,
         b'T' => 0,
         b'S' => 0,
         b'O' => 0,
@@ -149,6 +151,7 @@ fn answer(out: &mut [u8], at: usize, case: Case, bytes: &[u8]) -> usize {
         b'R' => chunk_answers::record(out, at, bytes, case.start as usize, first),
         b'W' => chunk_answers::walk(out, at, bytes, first),
         b'P' => chunk_answers::step(out, at, bytes),
+        b'F' => file_text::answers(out, at, bytes, first),
         b'S' => stream_answers::single(out, at, bytes, case.start as usize),
         _ => on_stream(out, at, case, bytes),
     }

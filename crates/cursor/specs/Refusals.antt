@@ -51,3 +51,6 @@ noRoom = 16
 
 abbrev pub sizeCopy : ℕ  -- size copy differs (strict read); record's offset
 sizeCopy = 17
+
+abbrev pub wrongFile : ℕ  -- document 02, P1: "fewer than 128 bytes or wrong file magic, at 0, before all others"
+wrongFile = 18

@@ -50,6 +50,8 @@ impl Refusal {
     pub const NO_ROOM: u8 = 16;
 
     pub const SIZE_COPY: u8 = 17;
+
+    pub const WRONG_FILE: u8 = 18;
 }
 
 // What a call that counts answers: how many tokens or answers there are, or a refusal. One enum for all crates.

@@ -10,6 +10,7 @@ use Rattle.tokens.specs.declared.Flags.{Flags}
 use Rattle.body.specs.Verdict.{Answered}
 use Rattle.chunk.specs.Walk.{startOf}
 use Rattle.chunk.specs.Listing.{Lists}
+use Rattle.log_file.specs.Listing.{FileLists}
 
 -- "Flags: 0 or not 0."
 abbrev pub flagOf : ℕ → Bool
@@ -30,3 +31,7 @@ OwnersPacked w lent left word = (o : Result ℕ) × ((word ≡ packedOf o) × An
 -- the same for the listing
 abbrev pub ListPacked : List ℕ → Bool → List ℕ → List ℕ → ℕ → Type 0
 ListPacked s recovery lent left word = (o : Result ℕ) × ((word ≡ packedOf o) × Lists s (startOf recovery) lent left o)
+
+-- document 02, P1: the same for the listing of a whole file
+abbrev pub ListFilePacked : List ℕ → Bool → List ℕ → List ℕ → ℕ → Type 0
+ListFilePacked s recovery lent left word = (o : Result ℕ) × ((word ≡ packedOf o) × FileLists s recovery lent left o)

@@ -1,4 +1,4 @@
-// The C calls: a stream's sheet, its owner table, and the listing of a chunk. The C header is include/doortumble.h.
+// The C calls: a stream's sheet, its owner table, and the listing of a chunk or of a whole log file. The C header is include/doortumble.h.
 //
 // Each takes bytes, numbers and lent words, and answers one packed word. No call keeps anything between calls.
 use cursor::Counted;
@@ -7,7 +7,7 @@ ghost use mathlib.Core.Path.{_≡_};
 ghost use Rattle.cursor.specs.Answers.{countAnswer};
 ghost use Rattle.tokens.specs.Walk.{walkOf};
 ghost use Rattle.sheet.specs.Sheet.{sheetAnswer, sheetWords};
-ghost use Rattle.doortumble.specs.Calls.{flagOf, flagsOf, packedOf, OwnersPacked, ListPacked};
+ghost use Rattle.doortumble.specs.Calls.{flagOf, flagsOf, packedOf, OwnersPacked, ListPacked, ListFilePacked};
 
 // The sheet of a stream.
 #[no_mangle]
@@ -46,6 +46,14 @@ pub extern "C" fn doortumble_list(chunk: &[u8], recovery: u32, rows: &mut [u64])
     ensures { λ r. ⌜ ListPacked (now (chunk .entry)) (flagOf recovery) (now (rows .entry)) (now (rows .exit)) r ⌝ }
 {
     packed(chunk::list(chunk, recovery != 0, rows))
+}
+
+// The listing of a whole log file, six words a row.
+#[no_mangle]
+pub extern "C" fn doortumble_list_file(file: &[u8], recovery: u32, rows: &mut [u64]) -> u64
+    ensures { λ r. ⌜ ListFilePacked (now (file .entry)) (flagOf recovery) (now (rows .entry)) (now (rows .exit)) r ⌝ }
+{
+    packed(log_file::list_file(file, recovery != 0, rows))
 }
 
 fn flags(dependencies: u32, inline: u32) -> Flags

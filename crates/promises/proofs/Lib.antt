@@ -6,6 +6,7 @@ pub mod OfName
 pub mod OfValue
 pub mod OfRecord
 pub mod OfChunk
+pub mod OfLogFile
 pub mod OfTokens
 pub mod OfSheet
 pub mod OfBody
@@ -20,6 +21,7 @@ pub mod Fits
 pub mod FitsValue
 pub mod FitsWalk
 pub mod Packed
+pub mod PackedFile
 pub mod PackedCalls
 pub mod Numbered
 pub mod Words

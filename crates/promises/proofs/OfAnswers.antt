@@ -1,4 +1,4 @@
--- `chunk_answers`, `stream_answers` and `listing_text`: each call allows one answer and one content of the lent buffer. Assumes nothing.
+-- `chunk_answers`, `stream_answers`, `listing_text` and `file_text`: each call allows one answer and one content of the lent buffer. Assumes nothing.
 use mathlib.Core.Path.{_≡_, refl, sym, ap, _∙_}
 use mathlib.Core.List.{List, _++_}
 use Prim.Native.Nat.{ℕ}
@@ -13,6 +13,7 @@ use Rattle.print.proofs.One.{puts-one, some-one}
 use Rattle.chunk_answers.proofs.One.{record-one, walk-one, step-text-one}
 use Rattle.stream_answers.specs.Modes.{OwnersSaid, OwnersCalled, ownersText, answerText, tableText}
 use Rattle.listing_text.proofs.One.{listed-one}
+use Rattle.file_text.proofs.One.{file-listing-one, file-answers-one}
 use Rattle.chunk_answers.proofs.header.Kinds as headerK
 use Rattle.chunk_answers.proofs.header.Reads as headerR
 use Rattle.chunk_answers.proofs.record.Kinds as record-atK
@@ -33,6 +34,12 @@ use Rattle.stream_answers.proofs.owners_call.Kinds as owners-callK
 use Rattle.stream_answers.proofs.owners_call.Reads as owners-callR
 use Rattle.listing_text.proofs.put.Kinds as listingK
 use Rattle.listing_text.proofs.put.Reads as listingR
+use Rattle.listing_text.proofs.refused.Kinds as refused-listingK
+use Rattle.listing_text.proofs.refused.Reads as refused-listingR
+use Rattle.file_text.proofs.listing.Kinds as file-listingK
+use Rattle.file_text.proofs.listing.Reads as file-listingR
+use Rattle.file_text.proofs.answers.Kinds as file-answersK
+use Rattle.file_text.proofs.answers.Reads as file-answersR
 
 -- the owner table's text, and the owner call's: the tokens have one answer and leave one table
 said-one : (w : Walked) (t u : List ℕ) → OwnersSaid w t → OwnersSaid w u → t ≡ u
@@ -85,3 +92,15 @@ owners-call κs a x y s t p q = some-one _ _ _ _ _ _ _ (λ t u. called-one _ _ t
 pub listing : (κs : Lfts 2) (a : Dens κs listingK.ps) (x y : resT listingK.r κs .Denot) (s t : AtExit (endedOf 2 listingK.ps listingK.r) κs)
     → listingR.Post κs a x s → listingR.Post κs a y t → (s .0 .now ≡ t .0 .now) × (x ≡ y)
 listing κs a x y s t p q = some-one _ _ _ _ _ _ _ (λ t u. listed-one _ t u) p q
+
+pub refused-listing : (κs : Lfts 1) (a : Dens κs refused-listingK.ps) (x y : resT refused-listingK.r κs .Denot) (s t : AtExit (endedOf 1 refused-listingK.ps refused-listingK.r) κs)
+    → refused-listingR.Post κs a x s → refused-listingR.Post κs a y t → (s .0 .now ≡ t .0 .now) × (x ≡ y)
+refused-listing κs a x y s t p q = puts-one _ _ _ _ _ _ _ _ refl p q
+
+pub file-listing : (κs : Lfts 2) (a : Dens κs file-listingK.ps) (x y : resT file-listingK.r κs .Denot) (s t : AtExit (endedOf 2 file-listingK.ps file-listingK.r) κs)
+    → file-listingR.Post κs a x s → file-listingR.Post κs a y t → (s .0 .now ≡ t .0 .now) × (x ≡ y)
+file-listing κs a x y s t p q = some-one _ _ _ _ _ _ _ (λ t u. file-listing-one _ t u) p q
+
+pub file-answers : (κs : Lfts 2) (a : Dens κs file-answersK.ps) (x y : resT file-answersK.r κs .Denot) (s t : AtExit (endedOf 2 file-answersK.ps file-answersK.r) κs)
+    → file-answersR.Post κs a x s → file-answersR.Post κs a y t → (s .0 .now ≡ t .0 .now) × (x ≡ y)
+file-answers κs a x y s t p q = some-one _ _ _ _ _ _ _ (λ t u. file-answers-one _ _ t u) p q

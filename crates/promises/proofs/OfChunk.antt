@@ -44,7 +44,7 @@ pub resync-after : Single 1 resyncK.ps resyncK.r resyncR.Post
 resync-after κs a x y s t p q = resync-one _ _ x y p q
 
 -- of two claims that a test chooses from, each fixes the answer and the rows
-chosen-one : (b : Bool) (c r x y : Result ℕ) (w v m n : List ℕ)
+pub chosen-one : (b : Bool) (c r x y : Result ℕ) (w v m n : List ℕ)
     → Choose b ((x ≡ c) × (m ≡ w)) ((x ≡ r) × (m ≡ v)) → Choose b ((y ≡ c) × (n ≡ w)) ((y ≡ r) × (n ≡ v)) → (x ≡ y) × (m ≡ n)
 chosen-one true c r x y w v m n (p, q) (e, f) = (p ∙ sym e, q ∙ sym f)
 chosen-one false c r x y w v m n (p, q) (e, f) = (p ∙ sym e, q ∙ sym f)

@@ -4,6 +4,7 @@ use contract.Lifetimes.{Lfts}
 use borrow.Fn.Kinds.{Dens, resT, endedOf}
 use denote.Triple.Clauses.{AtExit}
 use Rattle.record.specs.Chunk.{fieldsAt}
+use Rattle.log_file.specs.Header.{fileAt}
 use Rattle.body.proofs.One.{one-answer}
 use Rattle.doortumble.specs.Calls.{packedOf}
 use Rattle.doortumble.proofs.doortumble_sheet.Kinds as sheetK
@@ -12,9 +13,12 @@ use Rattle.doortumble.proofs.doortumble_owners.Kinds as ownersK
 use Rattle.doortumble.proofs.doortumble_owners.Reads as ownersR
 use Rattle.doortumble.proofs.doortumble_list.Kinds as listK
 use Rattle.doortumble.proofs.doortumble_list.Reads as listR
+use Rattle.doortumble.proofs.doortumble_list_file.Kinds as fileK
+use Rattle.doortumble.proofs.doortumble_list_file.Reads as fileR
 use Rattle.checksum_call.proofs.doortumble_bench_checksum.Kinds as checksumK
 use Rattle.checksum_call.proofs.doortumble_bench_checksum.Reads as checksumR
 use Rattle.promises.proofs.OfChunk.{lists-by}
+use Rattle.promises.proofs.OfLogFile.{file-lists-by}
 use Rattle.promises.proofs.One.{Single}
 
 pub sheet : (κs : Lfts 2) (a : Dens κs sheetK.ps) (x y : resT sheetK.r κs .Denot) (s t : AtExit (endedOf 2 sheetK.ps sheetK.r) κs)
@@ -31,6 +35,12 @@ pub list : (κs : Lfts 2) (a : Dens κs listK.ps) (x y : resT listK.r κs .Denot
     → listR.Post κs a x s → listR.Post κs a y t → (x ≡ y) × (s .1 .1 .0 .now ≡ t .1 .1 .0 .now)
 list κs a x y s t p q =
     let e = lists-by _ _ _ _ _ (p .0) (q .0) (fieldsAt _) (p .1 .1) (q .1 .1) in
+    (p .1 .0 ∙ ap packedOf (e .0) ∙ sym (q .1 .0), e .1)
+
+pub list-file : (κs : Lfts 2) (a : Dens κs fileK.ps) (x y : resT fileK.r κs .Denot) (s t : AtExit (endedOf 2 fileK.ps fileK.r) κs)
+    → fileR.Post κs a x s → fileR.Post κs a y t → (x ≡ y) × (s .1 .1 .0 .now ≡ t .1 .1 .0 .now)
+list-file κs a x y s t p q =
+    let e = file-lists-by _ _ _ _ _ (p .0) (q .0) (fileAt _) (p .1 .1) (q .1 .1) in
     (p .1 .0 ∙ ap packedOf (e .0) ∙ sym (q .1 .0), e .1)
 
 pub checksum : Single 1 checksumK.ps checksumK.r checksumR.Post

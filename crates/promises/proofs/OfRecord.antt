@@ -41,11 +41,11 @@ fields-one = read-back fieldsAnswer fieldsBack back
     back (F.Read f) = refl
     back (F.Refused r) = refl
 
-abbrev yesNo : Bool → Checksum
+abbrev pub yesNo : Bool → Checksum
 yesNo true = C.Yes
 yesNo false = C.No
 
-abbrev checksumBack : Answer Bool → Checksum
+abbrev pub checksumBack : Answer Bool → Checksum
 checksumBack (given b n) = yesNo b
 checksumBack (refused k p) = C.Refused (record { number = k; place = p })
 

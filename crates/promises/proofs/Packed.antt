@@ -51,7 +51,7 @@ answer-kept (refuses k p) h =
     rw z (λ i. refuses (a i) (b i))
 
 -- a refusal as the reads give it
-small-bits : (k p : ℕ) → Small k p → InBits (refuses k p)
+pub small-bits : (k p : ℕ) → Small k p → InBits (refuses k p)
 small-bits k p h = (h .0, omega (arith, h .1))
 
 -- the sheet: the walk's own refusal, or a number of tokens
@@ -80,7 +80,7 @@ owners-bits : (lent left : List ℕ) {w : Walked} {o : Result ℕ} → Answered 
 owners-bits lent left x h = subst InBits (sym (x .answer)) (verdict-bits lent (x .judged) h)
 
 -- the listing: a chunk is refused at 0; and there are at most 4,645 answers of five words each
-must-fits : (b : Bool) (k : ℕ) → k < 2 ^ 7 → Fits 65536 (must b k 0)
+pub must-fits : (b : Bool) (k : ℕ) → k < 2 ^ 7 → Fits 65536 (must b k 0)
 must-fits true k h = omega arith
 must-fits false k h = (h, omega arith)
 
@@ -90,7 +90,7 @@ fields-fit s =
     on 65536 (must (eqb (length s) chunkSize) wrongLength 0) _ (must-fits (eqb (length s) chunkSize) wrongLength (omega arith)) (λ x n h.
     on 65536 (must (startsWith s chunkMagic) wrongMagic 0) _ (must-fits (startsWith s chunkMagic) wrongMagic (omega arith)) (λ y m k. omega arith))
 
-chosen-bits : (b : Bool) (x y c : Result ℕ) (A B : Type 0) → InBits x → InBits y → Choose b ((c ≡ x) × A) ((c ≡ y) × B) → InBits c
+pub chosen-bits : (b : Bool) (x y c : Result ℕ) (A B : Type 0) → InBits x → InBits y → Choose b ((c ≡ x) × A) ((c ≡ y) × B) → InBits c
 chosen-bits true x y c A B h k (e, z) = subst InBits (sym e) h
 chosen-bits false x y c A B h k (e, z) = subst InBits (sym e) k
 

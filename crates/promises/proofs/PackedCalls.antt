@@ -1,14 +1,17 @@
 -- What a C caller takes from the word of a call is the answer itself, by the call's contract. `GoodsP` is what the checker
 -- knows of a call's arguments: here, that the start has 32 bits. Assumes nothing.
 use mathlib.Core.Path.{_≡_, ap, _∙_}
+use Prim.Native.Nat.{_^_, _<_}
 use contract.Lifetimes.{Lfts}
 use borrow.Fn.Kinds.{Dens, GoodsP, resT, endedOf}
 use denote.Triple.Clauses.{AtExit}
+use lib.ListN.{length}
 use Rattle.tokens.specs.Walk.{walkOf}
 use Rattle.sheet.specs.Sheet.{sheetAnswer}
 use Rattle.body.specs.Verdict.{Answered}
 use Rattle.chunk.specs.Walk.{startOf}
 use Rattle.chunk.specs.Listing.{Lists}
+use Rattle.log_file.specs.Listing.{FileLists}
 use Rattle.doortumble.specs.Calls.{flagOf, flagsOf}
 use Rattle.doortumble.proofs.doortumble_sheet.Kinds as sheetK
 use Rattle.doortumble.proofs.doortumble_sheet.Reads as sheetR
@@ -16,8 +19,11 @@ use Rattle.doortumble.proofs.doortumble_owners.Kinds as ownersK
 use Rattle.doortumble.proofs.doortumble_owners.Reads as ownersR
 use Rattle.doortumble.proofs.doortumble_list.Kinds as listK
 use Rattle.doortumble.proofs.doortumble_list.Reads as listR
+use Rattle.doortumble.proofs.doortumble_list_file.Kinds as fileK
+use Rattle.doortumble.proofs.doortumble_list_file.Reads as fileR
 use Rattle.promises.specs.Packed.{unpackedOf, Bytes}
 use Rattle.promises.proofs.Packed.{sheet-kept, owners-told, list-told}
+use Rattle.promises.proofs.PackedFile.{list-file-told}
 
 pub sheet : (κs : Lfts 2) (a : Dens κs sheetK.ps) (x : resT sheetK.r κs .Denot) (s : AtExit (endedOf 2 sheetK.ps sheetK.r) κs)
     → GoodsP κs sheetK.ps a → Bytes (a .0 .now) → sheetR.Post κs a x s
@@ -34,3 +40,9 @@ owners κs a x s g b p = owners-told (a .0 .now) b (a .1 .0) _ (g .1 .0 .1) _ _ 
 pub list : (κs : Lfts 2) (a : Dens κs listK.ps) (x : resT listK.r κs .Denot) (s : AtExit (endedOf 2 listK.ps listK.r) κs)
     → listR.Post κs a x s → Lists (a .0 .now) (startOf (flagOf (a .1 .0))) (a .1 .1 .0 .now) (s .1 .1 .0 .now) (unpackedOf x)
 list κs a x s p = list-told _ _ _ _ x p
+
+-- a file of fewer than 2^40 bytes
+pub list-file : (κs : Lfts 2) (a : Dens κs fileK.ps) (x : resT fileK.r κs .Denot) (s : AtExit (endedOf 2 fileK.ps fileK.r) κs)
+    → length (a .0 .now) < 2 ^ 40 → fileR.Post κs a x s
+    → FileLists (a .0 .now) (flagOf (a .1 .0)) (a .1 .1 .0 .now) (s .1 .1 .0 .now) (unpackedOf x)
+list-file κs a x s l p = list-file-told _ l _ _ _ x p
