@@ -8,8 +8,8 @@ use Rattle.record.specs.Answers.{refusalOf}
 use Rattle.record.specs.Record.{recordAt}
 use Rattle.record.specs.declared.Record.{Record}
 use Rattle.chunk.specs.Walk.{resyncAnswer, ResyncAfter}
-use Rattle.chunk.specs.declared.Found.{Found}
-use Rattle.chunk.specs.declared.Found.the-variants as F
+use Rattle.search.specs.declared.Found.{Found}
+use Rattle.search.specs.declared.Found.the-variants as F
 use Rattle.chunk.specs.declared.Resync.{Resync}
 use Rattle.chunk.specs.declared.Resync.the-variants as R
 use Rattle.print.specs.Text.{ascii, lineOf, refusedOf}

@@ -1,8 +1,8 @@
 // Mode R: one record, and the resync offset after it.
 use crate::item;
-use chunk::Found;
 use chunk::Resync;
 use record::RecordRead;
+use search::Found;
 ghost use Rattle.record.specs.Record.{recordAt};
 ghost use Rattle.print.specs.Text.{Puts, PutsSome};
 ghost use Rattle.chunk_answers.specs.Record.{recordLine, foundLine, RecordText};

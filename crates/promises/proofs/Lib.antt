@@ -5,6 +5,7 @@ pub mod OfCrc32
 pub mod OfName
 pub mod OfValue
 pub mod OfRecord
+pub mod OfSearch
 pub mod OfChunk
 pub mod OfLogFile
 pub mod OfTokens

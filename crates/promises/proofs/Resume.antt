@@ -16,8 +16,8 @@ use Rattle.record.specs.declared.Fields.{Fields}
 use Rattle.record.specs.declared.Record.{Record}
 use Rattle.cursor.specs.declared.Refusal.{Refusal}
 use Rattle.record.proofs.Within.{inside, strict-inside, strict-plain}
-use Rattle.chunk.specs.Least.{Least}
-use Rattle.chunk.specs.Allowed.{liveEnd, resyncable, isLive}
+use Rattle.search.specs.Least.{Least}
+use Rattle.search.specs.Allowed.{liveEnd, resyncable, isLive}
 use Rattle.chunk.specs.Walk.{Choose, Carves, Resyncs, Goes, answers, goes-on, Steps, walkTurn, readTurn, carvedAt, afterCarve, afterRefusal, skipTo, silent}
 use Rattle.chunk.specs.Listing.{Runs}
 use Rattle.chunk.specs.Whole.{firstLive}
@@ -27,13 +27,13 @@ use Rattle.chunk.specs.declared.Walk.{Walk}
 use Rattle.chunk.specs.declared.Item.{Item}
 use Rattle.chunk.specs.declared.Item.the-variants as I
 use Rattle.chunk.specs.declared.Stepped.{Stepped}
-use Rattle.chunk.specs.declared.Found.{Found}
-use Rattle.chunk.specs.declared.Found.the-variants as F
+use Rattle.search.specs.declared.Found.{Found}
+use Rattle.search.specs.declared.Found.the-variants as F
 use Rattle.chunk.specs.declared.Turn.{Turn}
 use Rattle.chunk.specs.declared.Turn.the-variants as T
-use Rattle.chunk.proofs.Leasts.{one}
-use Rattle.chunk.proofs.Magics.{and-true}
-use Rattle.chunk.proofs.Suited.{reads-given}
+use Rattle.search.proofs.Leasts.{one}
+use Rattle.search.proofs.Magics.{and-true}
+use Rattle.search.proofs.Suited.{reads-given}
 use Rattle.chunk.proofs.Phases.{answers-not, carve-next, walk-next}
 use Rattle.chunk.proofs.Order.{answered-is, told}
 use Rattle.chunk.proofs.Whole.{step-goes}

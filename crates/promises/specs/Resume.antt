@@ -7,13 +7,13 @@ use Rattle.cursor.specs.Answer.{Answer, given, refused}
 use Rattle.record.specs.Record.{plainAt}
 use Rattle.record.specs.declared.Fields.{Fields}
 use Rattle.record.specs.declared.Record.{Record}
-use Rattle.chunk.specs.Least.{Least}
-use Rattle.chunk.specs.Allowed.{liveEnd, resyncable}
+use Rattle.search.specs.Least.{Least}
+use Rattle.search.specs.Allowed.{liveEnd, resyncable}
 use Rattle.chunk.specs.Walk.{Choose}
 use Rattle.chunk.specs.declared.Place.{Place}
 use Rattle.chunk.specs.declared.Place.the-variants as P
-use Rattle.chunk.specs.declared.Found.{Found}
-use Rattle.chunk.specs.declared.Found.the-variants as F
+use Rattle.search.specs.declared.Found.{Found}
+use Rattle.search.specs.declared.Found.the-variants as F
 
 -- a record that the plain read gives is the next live one; after one that is unreadable it is that at the resync offset, or none
 abbrev pub nextAt : List ℕ → Fields → ℕ → Found → Answer Record → Type 0
