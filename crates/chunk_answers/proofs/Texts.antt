@@ -7,22 +7,21 @@ use native.Mathlib.Omega.{arith}
 use borrow.Author.Tests.{lt-ltb, le-ltb}
 use lib.ListN.{length, take, drop, length-drop}
 use lib.Seq.{take-all}
-use Rattle.cursor.specs.Answer.{given, pick}
+use Rattle.cursor.specs.Answer.{given, Maybe, pick}
 use Rattle.record.specs.Answers.{fieldsAnswer}
 use Rattle.record.specs.Chunk.{fieldsAt, checksumAt, stringsOf, templatesOf, headerEnd}
 use Rattle.record.specs.Record.{recordAt}
 use Rattle.record.specs.declared.Fields.{Fields}
 use Rattle.record.specs.declared.FieldsRead.the-variants as F
 use Rattle.record.specs.declared.Header.{Header}
-use Rattle.chunk.specs.Walk.{Steps, resyncAnswer, ResyncAfter}
+use Rattle.chunk.specs.Walk.{Reply, Steps, resyncAnswer, ResyncAfter}
 use Rattle.chunk.specs.declared.Place.{Place}
 use Rattle.chunk.specs.declared.Walk.{Walk}
-use Rattle.chunk.specs.declared.Stepped.{Stepped}
 use Rattle.chunk.specs.declared.Resync.{Resync}
 use Rattle.print.specs.Text.{ascii, lineOf, Puts, PutsSome}
 use Rattle.print.proofs.Putting.{put-none, put-as}
 use Rattle.chunk_answers.specs.Header.{fieldNumbers, checksumLine, tableLines, headerOn, headerText}
-use Rattle.chunk_answers.specs.Item.{itemLine}
+use Rattle.chunk_answers.specs.Item.{stepLine}
 use Rattle.chunk_answers.specs.Record.{recordLine, resyncLine, RecordText}
 use Rattle.chunk_answers.specs.Step.{placeNumbers, stateAt, stateLine, StepText}
 
@@ -65,15 +64,16 @@ behind s = take-all (length s - 40) (drop 40 s) (omega (arith, length-drop 40 s)
 pub step-none : (s lent : List ℕ) (at : ℕ) → length s < 40 → PutsSome (StepText s) lent at lent at
 step-none s lent at h = record { text = []; allowed = rw (lt-ltb (length s) 40 h) refl; puts = put-none }
 
-pub step-some : (s chunk : List ℕ) (w : Walk) (x : Stepped) {lent left : List ℕ} {at end : ℕ} → 40 ≤ length s → chunk ≡ drop 40 s → w ≡ stateAt s
-    → Steps chunk w x → Puts (itemLine chunk (x .item) ++ stateLine (x .state)) lent at left end → PutsSome (StepText s) lent at left end
-step-some s chunk w x h e f t p =
+pub step-some : (s chunk : List ℕ) (w next : Walk) (says : Maybe Reply) {lent left : List ℕ} {at end : ℕ} → 40 ≤ length s → chunk ≡ drop 40 s → w ≡ stateAt s
+    → Steps chunk w (next, says) → Puts (stepLine chunk says ++ stateLine next) lent at left end → PutsSome (StepText s) lent at left end
+step-some s chunk w next says h e f t p =
     record {
-      text = itemLine chunk (x .item) ++ stateLine (x .state);
+      text = stepLine chunk says ++ stateLine next;
       allowed = rw (le-ltb (length s) 40 h) (record {
-        stepped = x;
-        steps = subst (λ (v : Walk). Steps (drop 40 s) v x) f (subst (λ (l : List ℕ). Steps l w x) e t);
-        is = ap (λ (l : List ℕ). itemLine l (x .item) ++ stateLine (x .state)) e;
+        next = next;
+        says = says;
+        steps = subst (λ (v : Walk). Steps (drop 40 s) v (next, says)) f (subst (λ (l : List ℕ). Steps l w (next, says)) e t);
+        is = ap (λ (l : List ℕ). stepLine l says ++ stateLine next) e;
       });
       puts = p;
     }

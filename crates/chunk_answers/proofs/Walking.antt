@@ -6,28 +6,31 @@ use Prim.Native.Nat.{ℕ, _+_, _*_, _≤_, _<_}
 use native.Mathlib.Omega.{arith}
 use borrow.Author.Tests.{ne-eqb}
 use lib.ListN.{length, getD, take, drop}
+use Rattle.cursor.specs.Answer.{Maybe, just, nothing}
 use Rattle.cursor.specs.Answers.{refusal}
 use Rattle.cursor.specs.declared.Refusal.{Refusal}
 use Rattle.record.specs.Chunk.{fieldsAt}
 use Rattle.record.specs.declared.Record.{Record}
-use Rattle.chunk.specs.Listing.{rowOf, rowsOf, wordsOf, firstRow}
-use Rattle.chunk.specs.declared.Item.{Item}
-use Rattle.chunk.specs.declared.Item.the-variants as I
+use Rattle.chunk.specs.Walk.{Reply, live, carved, refusedWith}
+use Rattle.chunk.specs.Listing.{rowOf, stepRow, rowsOf, wordsOf, firstRow}
 use Rattle.chunk.specs.declared.Row.{Row}
 use Rattle.chunk.proofs.Laying.{Passed, next-row, all-passed}
 use Rattle.chunk.proofs.AllRows.{AllRows}
 use Rattle.print.specs.Text.{ascii, lineOf, Puts, PutsSome, each, refusedOf}
 use Rattle.print.proofs.Putting.{_▸_, put-none, put-as, each-more}
-use Rattle.chunk_answers.specs.Item.{recordNumbers, itemLine}
+use Rattle.chunk_answers.specs.Item.{recordNumbers, itemLine, stepLine}
 use Rattle.chunk_answers.specs.Walk.{itemLines, walkOn, WalkText}
 use Rattle.chunk_answers.specs.Lines.{rowRecord, lineBy, rowLine, RowsPut}
 
 -- a row's line is that of the answer that it is of
-pub row-line : (s : List ℕ) (x : Item) → rowLine s (rowOf x) ≡ itemLine s x
-row-line s (I.Live r) = refl
-row-line s (I.Carved r) = refl
-row-line s (I.Refused r) = refl
-row-line s I.Done = refl
+row-line : (s : List ℕ) (x : Reply) → rowLine s (rowOf x) ≡ itemLine s x
+row-line s (live r) = refl
+row-line s (carved r) = refl
+row-line s (refusedWith number place) = refl
+
+pub step-line : (s : List ℕ) (x : Maybe Reply) → rowLine s (stepRow x) ≡ stepLine s x
+step-line s (just i) = row-line s i
+step-line s nothing = refl
 
 -- the line of a row, by its item
 module _ (s row : List ℕ) (item : ℕ) where
@@ -48,7 +51,7 @@ module _ (s row : List ℕ) (item : ℕ) where
   last-row a b c = rw (ne-eqb item 1 a, ne-eqb item 2 b, ne-eqb item 3 c) refl
 
 -- the lines of the answers whose rows are passed are put
-pub record LinesPut (s : List ℕ) (items : List Item) (lent : List ℕ) (at : ℕ) (out : List ℕ) (end i : ℕ) : Type 0 where
+pub record LinesPut (s : List ℕ) (items : List Reply) (lent : List ℕ) (at : ℕ) (out : List ℕ) (end i : ℕ) : Type 0 where
   pub passed : Passed items i
   pub puts : Puts (itemLines s (passed .done)) lent at out end
 
@@ -56,7 +59,7 @@ pub record LinesPut (s : List ℕ) (items : List Item) (lent : List ℕ) (at : �
 pub record Going (s rows lent : List ℕ) (at : ℕ) (out : List ℕ) (end i : ℕ) : Type 0 where
   pub within : i ≤ length rows
   pub kept : length out ≡ length lent
-  pub lines : (items : List Item) → rows ≡ rowsOf items → LinesPut s items lent at out end i
+  pub lines : (items : List Reply) → rows ≡ rowsOf items → LinesPut s items lent at out end i
 
 pub going-start : (s rows lent : List ℕ) (at : ℕ) → Going s rows lent at lent at 0
 unfolding each
@@ -89,7 +92,7 @@ module _ (s rows lent : List ℕ) (at : ℕ) {out : List ℕ} {end i : ℕ} (g :
   going-last next m h p items is =
       let l = g .lines items is in
       let e = all-passed items i (l .passed) (subst (λ (y : List ℕ). length y < i + 5) is h) in
-      put-as (ap (λ (y : List Item). itemLines s y ++ ascii "done\n") (sym e)) (l .puts ▸ p)
+      put-as (ap (λ (y : List Reply). itemLines s y ++ ascii "done\n") (sym e)) (l .puts ▸ p)
 
 -- mode W: a chunk with a header, whose rows are all there, and one that is refused
 module _ (s : List ℕ) (recover : Bool) {lent left : List ℕ} {at end : ℕ} where

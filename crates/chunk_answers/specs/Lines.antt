@@ -6,8 +6,8 @@ use lib.Dec.{eqb}
 use lib.ListN.{getD}
 use Rattle.cursor.specs.Answer.{pick}
 use Rattle.record.specs.declared.Record.{Record}
+use Rattle.chunk.specs.Walk.{Reply}
 use Rattle.chunk.specs.Listing.{rowsOf}
-use Rattle.chunk.specs.declared.Item.{Item}
 use Rattle.print.specs.Text.{ascii, lineOf, Puts}
 use Rattle.chunk_answers.specs.Item.{recordNumbers}
 use Rattle.chunk_answers.specs.Walk.{itemLines}
@@ -29,4 +29,4 @@ rowLine s row = lineBy s (getD row 0 0) row
 
 -- the lines of the answers that rows are of
 abbrev pub RowsPut : List ℕ → List ℕ → List ℕ → ℕ → List ℕ → ℕ → Type 0
-RowsPut s rows lent at left end = (items : List Item) → rows ≡ rowsOf items → Puts (itemLines s items ++ ascii "done\n") lent at left end
+RowsPut s rows lent at left end = (items : List Reply) → rows ≡ rowsOf items → Puts (itemLines s items ++ ascii "done\n") lent at left end

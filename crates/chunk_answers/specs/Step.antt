@@ -5,15 +5,14 @@ use mathlib.Core.List.{List, [], _∷_, _++_}
 use Prim.Native.Nat.{ℕ}
 use lib.Dec.{ltb, eqb}
 use lib.ListN.{length, drop}
-use Rattle.cursor.specs.Answer.{pick}
+use Rattle.cursor.specs.Answer.{Maybe, pick}
 use Rattle.cursor.specs.Reads.{numberOf}
-use Rattle.chunk.specs.Walk.{Choose, Steps}
+use Rattle.chunk.specs.Walk.{Choose, Reply, Steps}
 use Rattle.chunk.specs.declared.Place.{Place}
 use Rattle.chunk.specs.declared.Place.the-variants as P
 use Rattle.chunk.specs.declared.Walk.{Walk}
-use Rattle.chunk.specs.declared.Stepped.{Stepped}
 use Rattle.print.specs.Text.{ascii, lineOf}
-use Rattle.chunk_answers.specs.Item.{itemLine}
+use Rattle.chunk_answers.specs.Item.{stepLine}
 
 -- '1 or 0 (a walk position stands or not), the position'; 'other flag words: not 0 counts as 1'
 abbrev pub placeOf : ℕ → ℕ → Place
@@ -40,9 +39,10 @@ stateLine w = lineOf (ascii "state") (placeNumbers (w .place) ++ (w .from ∷ w 
 
 -- 'One answer line as under W (`done` too), then `state` and the five numbers that came back'
 pub record StepLines (s : List ℕ) (w : Walk) (text : List ℕ) : Type 0 where
-  pub stepped : Stepped
-  pub steps : Steps s w stepped
-  pub is : text ≡ itemLine s (stepped .item) ++ stateLine (stepped .state)
+  pub next : Walk
+  pub says : Maybe Reply
+  pub steps : Steps s w (next, says)
+  pub is : text ≡ stepLine s says ++ stateLine next
 
 -- 'data is 40 bytes of state and then the chunk'; nothing is put where there are fewer
 abbrev pub StepText : List ℕ → List ℕ → Type 0

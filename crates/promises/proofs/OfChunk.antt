@@ -13,12 +13,11 @@ use Rattle.cursor.specs.Answer.{Answer, given, refused, Result}
 use Rattle.cursor.specs.Answers.{countAnswer}
 use Rattle.record.specs.Chunk.{fieldsAt}
 use Rattle.record.specs.declared.Fields.{Fields}
-use Rattle.chunk.specs.Walk.{Choose}
+use Rattle.chunk.specs.Walk.{Choose, Reply}
 use Rattle.chunk.specs.Listing.{RowsAnswer, listsOn, rowsOf, wordsOf}
 use Rattle.chunk.specs.declared.Walk.{Walk}
-use Rattle.chunk.specs.declared.Item.{Item}
 use Rattle.chunk.specs.declared.Row.{Row}
-use Rattle.chunk.proofs.OneStep.{step-one, resync-one}
+use Rattle.chunk.proofs.OneStep.{stepped-one, resync-one}
 use Rattle.chunk.proofs.Counting.{runs-one}
 use Rattle.chunk.proofs.Walk.start.Kinds as startK
 use Rattle.chunk.proofs.Walk.start.Reads as startR
@@ -38,7 +37,7 @@ pub start : Single 0 startK.ps startK.r startR.Post
 start κs a x y s t p q = p ∙ sym q
 
 pub step : Single 1 stepK.ps stepK.r stepR.Post
-step κs a x y s t p q = step-one _ _ x y p q
+step κs a x y s t p q = stepped-one _ _ x y p q
 
 pub resync-after : Single 1 resyncK.ps resyncK.r resyncR.Post
 resync-after κs a x y s t p q = resync-one _ _ x y p q
@@ -52,7 +51,7 @@ chosen-one false c r x y w v m n (p, q) (e, f) = (p ∙ sym e, q ∙ sym f)
 pub lists-by : (s : List ℕ) (w : Walk) (lent m n : List ℕ) (x y : Result ℕ) (f : Answer Fields) → listsOn s w lent m x f → listsOn s w lent n y f → (x ≡ y) × (m ≡ n)
 lists-by s w lent m n x y (given h k) (items, (r, c)) (others, (q, d)) =
     let e = runs-one s w others items q r in
-    chosen-one (leb (length (rowsOf items)) (length lent)) _ _ x y _ _ m n c (subst (λ (l : List Item). RowsAnswer l lent n y) e d)
+    chosen-one (leb (length (rowsOf items)) (length lent)) _ _ x y _ _ m n c (subst (λ (l : List Reply). RowsAnswer l lent n y) e d)
 lists-by s w lent m n x y (refused k p) (a, b) (c, d) = (a ∙ sym c, b ∙ sym d)
 
 -- answer and lent rows

@@ -14,8 +14,8 @@ use Rattle.cursor.specs.Answers.{countAnswer}
 use Rattle.cursor.specs.declared.Part.{Part}
 use Rattle.record.specs.declared.Checksum.{Checksum}
 use Rattle.record.specs.declared.Checksum.the-variants as Y
+use Rattle.chunk.specs.Walk.{Reply}
 use Rattle.chunk.specs.Whole.{mostAnswers}
-use Rattle.chunk.specs.declared.Item.{Item}
 use Rattle.log_file.specs.Header.{fileAt}
 use Rattle.log_file.specs.Chunks.{chunkStart, pieceCount}
 use Rattle.log_file.specs.Listing.{FileItems, FileRowsAnswer, fileListsOn, fileRows, chunkRows, rowCount}
@@ -90,7 +90,7 @@ pub file-lists-by : (s : List ℕ) (recover : Bool) (lent m n : List ℕ) (x y :
 file-lists-by s recover lent m n x y (given h k) (lists, (r, c)) (others, (q, d)) =
     let e = items-one s (h .block) recover 0 others lists q r in
     chosen-one (leb (length (fileRows (h .block) lists)) (length lent)) _ _ x y _ _ m n c
-    (subst (λ (l : List (List Item)). FileRowsAnswer (h .block) l lent n y) e d)
+    (subst (λ (l : List (List Reply)). FileRowsAnswer (h .block) l lent n y) e d)
 file-lists-by s recover lent m n x y (refused k p) (a, b) (c, d) = (a ∙ sym c, b ∙ sym d)
 
 -- answer and lent rows
@@ -104,12 +104,12 @@ list-file κs a x y s t p q =
 pub damage-stays : (s t : List ℕ) (h : FileHeader) (n k : ℕ) (recover : Bool) → fileAt s ≡ given h n → fileAt t ≡ given h n → length s ≡ length t
     → take (chunkStart (h .block) k) s ≡ take (chunkStart (h .block) k) t
     → drop (chunkStart (h .block) (k + 1)) s ≡ drop (chunkStart (h .block) (k + 1)) t
-    → (xs ys : List (List Item)) → FileItems s (h .block) recover xs → FileItems t (h .block) recover ys
+    → (xs ys : List (List Reply)) → FileItems s (h .block) recover xs → FileItems t (h .block) recover ys
     → (j : ℕ) → (j ≡ k → ⊥) → chunkRows (h .block) xs j ≡ chunkRows (h .block) ys j
 damage-stays s t h n k recover e f long before after xs ys p q j d =
     other-rows s t (h .block) recover k long (same-chunks s t (h .block) k before after) xs ys p q j d
 
 -- at most 4,645 rows for each begun 65,536 bytes after the block size
-pub rows-bound : (s : List ℕ) (block : ℕ) (recover : Bool) (lists : List (List Item)) → FileItems s block recover lists
+pub rows-bound : (s : List ℕ) (block : ℕ) (recover : Bool) (lists : List (List Reply)) → FileItems s block recover lists
     → rowCount lists ≤ mostAnswers * pieceCount (length s) block
 rows-bound s block recover lists p = most-rows s block recover lists p

@@ -18,9 +18,8 @@ use Rattle.cursor.proofs.Choice.{either}
 use Rattle.record.specs.Chunk.{fieldsAt}
 use Rattle.record.specs.declared.Fields.{Fields}
 use Rattle.record.specs.declared.Record.{Record}
+use Rattle.chunk.specs.Walk.{Reply, live, carved, refusedWith}
 use Rattle.chunk.specs.Whole.{Rising}
-use Rattle.chunk.specs.declared.Item.{Item}
-use Rattle.chunk.specs.declared.Item.the-variants as I
 use Rattle.chunk.proofs.Whole.{apart, most-answers}
 use Rattle.print.specs.Text.{Page, page, put, putByte, Puts, PutsSome, ascii, each, digit, decimalIn, decimalOf, spacedNumber, lineOf}
 use Rattle.listing_text.specs.Listing.{listedRecord, listedItem, listedItems, tallyOf, doneLine, listingOf, ItemsOn, Listed}
@@ -78,36 +77,35 @@ record-length word r w h =
     )
 
 -- the lines of records that lie within a chunk, and of refusals
-lines-length : (from : ℕ) (items : List Item) → Rising from items → length (listedItems items) ≤ 55 * length items
+lines-length : (from : ℕ) (items : List Reply) → Rising from items → length (listedItems items) ≤ 55 * length items
 unfolding each Rising
 lines-length from [] h = omega arith
-lines-length from (I.Live r ∷ items) (a, b, c) =
+lines-length from (live r ∷ items) (a, b, c) =
     omega (
       arith,
-      length-append (listedItem (I.Live r)) (listedItems items),
+      length-append (listedItem (live r)) (listedItems items),
       record-length (ascii "live") r (omega arith) (omega arith),
       lines-length (r .offset + r .size) items c,
     )
-lines-length from (I.Carved r ∷ items) (a, b, c) =
+lines-length from (carved r ∷ items) (a, b, c) =
     omega (
       arith,
-      length-append (listedItem (I.Carved r)) (listedItems items),
+      length-append (listedItem (carved r)) (listedItems items),
       record-length (ascii "carved") r (omega arith) (omega arith),
       lines-length (r .offset + r .size) items c,
     )
-lines-length from (I.Refused r ∷ items) h =
+lines-length from (refusedWith number place ∷ items) h =
     omega (
       arith,
-      length-append (listedItem (I.Refused r)) (listedItems items),
-      line-length (ascii "refused") (r .place) (r .number) 0,
-      digits-most 20 (r .place),
-      digits-most 20 (r .number),
+      length-append (listedItem (refusedWith number place)) (listedItems items),
+      line-length (ascii "refused") place number 0,
+      digits-most 20 place,
+      digits-most 20 number,
       digits-below 20 0 0 (omega arith),
       lines-length from items h,
     )
-lines-length from (I.Done ∷ items) h = omega (arith, lines-length from items h)
 
-listing-length : (from : ℕ) (items : List Item) → Rising from items → length items ≤ 4645 → length (listingOf items) ≤ programBuffer
+listing-length : (from : ℕ) (items : List Reply) → Rising from items → length items ≤ 4645 → length (listingOf items) ≤ programBuffer
 listing-length from items h few =
     let t = tallyOf items in
     omega (
@@ -121,11 +119,11 @@ listing-length from items h few =
       digits-most 20 (t .refused),
     )
 
-items-room : (s : List ℕ) (items : List Item) (f : Answer Fields) → fieldsAt s ≡ f → ItemsOn s items f → length (listingOf items) ≤ programBuffer
+items-room : (s : List ℕ) (items : List Reply) (f : Answer Fields) → fieldsAt s ≡ f → ItemsOn s items f → length (listingOf items) ≤ programBuffer
 unfolding Rising
 items-room s items (given h n) e r = listing-length 512 items (apart s h n e true items r) (most-answers s h n e true items r)
 items-room s items (refused k p) e r =
-    subst (λ (l : List Item). length (listingOf l) ≤ programBuffer) (sym r) (listing-length 0 (I.Refused _ ∷ []) (tt {0}) (omega arith))
+    subst (λ (l : List Reply). length (listingOf l) ≤ programBuffer) (sym r) (listing-length 0 (refusedWith k p ∷ []) (tt {0}) (omega arith))
 
 -- the listing of anything has room
 pub listing-room : (s text : List ℕ) → Listed s text → length text ≤ programBuffer

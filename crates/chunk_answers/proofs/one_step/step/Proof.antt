@@ -2,8 +2,9 @@
 use borrow.Author.Needs.{needs}
 use mathlib.Core.Path.{ap, _∙_}
 use Rattle.print.proofs.Putting.{_▸_, put-as}
+use Rattle.chunk.specs.Answers.{itemAnswer}
 use Rattle.chunk_answers.specs.Lines.{rowLine}
-use Rattle.chunk_answers.proofs.Walking.{row-line}
+use Rattle.chunk_answers.proofs.Walking.{step-line}
 use Rattle.chunk_answers.proofs.Texts.{behind, step-none, step-some}
 use Rattle.chunk_answers.proofs.one_step.step.Statement.{statement}
 use Rattle.chunk_answers.proofs.one_step.step.Tie as tie
@@ -19,8 +20,8 @@ returns-2 c =
     let s = long .before .before .before .args .bytes .now in
     let x = step .step .result in
     let line = c .before .before .before .before .before .before in
-    step-some s _ _ x (long .if1 .left) (behind s) (state .state-of .ensures) (step .step .ensures)
-    (put-as (ap (rowLine _) (line .before .row .ensures) ∙ row-line _ (x .item)) (line .line .ensures) ▸ c .before .before .state .ensures)
+    step-some s _ _ (x .state) (itemAnswer (x .item)) (long .if1 .left) (behind s) (state .state-of .ensures) (step .step .ensures)
+    (put-as (ap (rowLine _) (line .before .row .ensures) ∙ step-line _ (itemAnswer (x .item))) (line .line .ensures) ▸ c .before .before .state .ensures)
 
 pub step-spec : {M : Type 1} → statement M
 step-spec =
