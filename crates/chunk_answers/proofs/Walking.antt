@@ -12,9 +12,9 @@ use Rattle.cursor.specs.declared.Refusal.{Refusal}
 use Rattle.record.specs.Chunk.{fieldsAt}
 use Rattle.record.specs.declared.Record.{Record}
 use Rattle.chunk.specs.Walk.{Reply, live, carved, refusedWith}
-use Rattle.chunk.specs.Listing.{rowOf, stepRow, rowsOf, wordsOf, firstRow}
+use Rattle.chunk.specs.Listing.{rowOf, stepRow, rowsOf, rowWords, firstRow}
 use Rattle.chunk.specs.declared.Row.{Row}
-use Rattle.chunk.proofs.Laying.{Passed, next-row, all-passed}
+use Rattle.chunk.proofs.Laying.{RowsGone, gone-none, gone-more, gone-all}
 use Rattle.chunk.proofs.AllRows.{AllRows}
 use Rattle.print.specs.Text.{ascii, lineOf, Puts, PutsSome, each, refusedOf}
 use Rattle.print.proofs.Putting.{_▸_, put-none, put-as, each-more}
@@ -50,49 +50,35 @@ module _ (s row : List ℕ) (item : ℕ) where
   pub last-row : (item ≡ 1 → ⊥) → (item ≡ 2 → ⊥) → (item ≡ 3 → ⊥) → ascii "done\n" ≡ lineBy s item row
   last-row a b c = rw (ne-eqb item 1 a, ne-eqb item 2 b, ne-eqb item 3 c) refl
 
--- the lines of the answers whose rows are passed are put
-pub record LinesPut (s : List ℕ) (items : List Reply) (lent : List ℕ) (at : ℕ) (out : List ℕ) (end i : ℕ) : Type 0 where
-  pub passed : Passed items i
-  pub puts : Puts (itemLines s (passed .done)) lent at out end
+-- the lines of some answers are put
+abbrev pub LinesPut : List ℕ → List ℕ → ℕ → List ℕ → ℕ → List Reply → Type 0
+LinesPut s lent at out end done = Puts (itemLines s done) lent at out end
 
 -- what holds before each row
-pub record Going (s rows lent : List ℕ) (at : ℕ) (out : List ℕ) (end i : ℕ) : Type 0 where
+pub record WalkedTo (s rows lent : List ℕ) (at : ℕ) (out : List ℕ) (end i : ℕ) : Type 0 where
   pub within : i ≤ length rows
   pub kept : length out ≡ length lent
-  pub lines : (items : List Reply) → rows ≡ rowsOf items → LinesPut s items lent at out end i
+  pub lines : RowsGone rows (LinesPut s lent at out end) i
 
-pub going-start : (s rows lent : List ℕ) (at : ℕ) → Going s rows lent at lent at 0
+pub walked-none : (s rows lent : List ℕ) (at : ℕ) → WalkedTo s rows lent at lent at 0
 unfolding each
-going-start s rows lent at =
-    record { within = omega arith; kept = refl; lines = λ items e. record { passed = record { done = []; rest = items; all = refl; at = refl }; puts = put-none } }
+walked-none s rows lent at = record { within = omega arith; kept = refl; lines = gone-none rows (LinesPut s lent at lent at) put-none }
 
-module _ (s rows lent : List ℕ) (at : ℕ) {out : List ℕ} {end i : ℕ} (g : Going s rows lent at out end i) where
+module _ (s rows lent : List ℕ) (at : ℕ) {out : List ℕ} {end i : ℕ} (g : WalkedTo s rows lent at out end i) where
   -- one row more
-  pub going-next : (row : Row) (next : List ℕ) (m : ℕ) → i + 5 ≤ length rows → wordsOf row ≡ firstRow (drop i rows) → length next ≡ length out
-      → Puts (rowLine s (wordsOf row)) out end next m → Going s rows lent at next m (i + 5)
-  going-next row next m h w k p =
+  pub walked-more : (row : Row) (next : List ℕ) (m : ℕ) → i + 5 ≤ length rows → rowWords row ≡ firstRow (drop i rows) → length next ≡ length out
+      → Puts (rowLine s (rowWords row)) out end next m → WalkedTo s rows lent at next m (i + 5)
+  walked-more row next m h w k p =
       record {
         within = h;
         kept = k ∙ g .kept;
-        lines = λ items is.
-            let l = g .lines items is in
-            let n = next-row items i (l .passed) (subst (λ (y : List ℕ). i + 5 ≤ length y) is h) in
-            let x = n .item in
-            let f : wordsOf row ≡ rowOf x = w ∙ ap (λ (y : List ℕ). firstRow (drop i y)) is ∙ n .is in
-            record {
-              passed = n .on;
-              puts =
-                  put-as (each-more (itemLine s) (l .passed .done) x ∙ ap (itemLines s) (sym (n .more)))
-                  (l .puts ▸ put-as (ap (rowLine s) f ∙ row-line s x) p);
-            };
+        lines = gone-more rows (LinesPut s lent at out end) i (g .lines) (LinesPut s lent at next m) (rowWords row) h w
+            (λ done x f l. put-as (each-more (itemLine s) done x) (l ▸ put-as (ap (rowLine s) f ∙ row-line s x) p));
       }
 
   -- no row is left
-  pub going-last : (next : List ℕ) (m : ℕ) → length rows < i + 5 → Puts (ascii "done\n") out end next m → RowsPut s rows lent at next m
-  going-last next m h p items is =
-      let l = g .lines items is in
-      let e = all-passed items i (l .passed) (subst (λ (y : List ℕ). length y < i + 5) is h) in
-      put-as (ap (λ (y : List Reply). itemLines s y ++ ascii "done\n") (sym e)) (l .puts ▸ p)
+  pub walked-all : (next : List ℕ) (m : ℕ) → length rows < i + 5 → Puts (ascii "done\n") out end next m → RowsPut s rows lent at next m
+  walked-all next m h p items is = gone-all rows (LinesPut s lent at out end) i (g .lines) h items is ▸ p
 
 -- mode W: a chunk with a header, whose rows are all there, and one that is refused
 module _ (s : List ℕ) (recover : Bool) {lent left : List ℕ} {at end : ℕ} where

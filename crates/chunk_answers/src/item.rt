@@ -3,7 +3,7 @@ use chunk::Row;
 use record::Record;
 ghost use mathlib.Core.Path.{_≡_};
 ghost use Rattle.print.specs.Text.{Puts};
-ghost use Rattle.chunk.specs.Listing.{wordsOf};
+ghost use Rattle.chunk.specs.Listing.{rowWords};
 ghost use Rattle.chunk_answers.specs.Item.{recordNumbers};
 ghost use Rattle.chunk_answers.specs.Lines.{rowRecord, rowLine};
 
@@ -12,7 +12,7 @@ const PAYLOAD: usize = 24;
 
 // The line of an answer, by its row.
 pub fn line(out: &mut [u8], at: usize, row: Row, chunk: &[u8]) -> usize
-    ensures { λ r. ⌜ Puts (rowLine (now (chunk .entry)) (wordsOf row)) (now (out .entry)) at (now (out .exit)) r ⌝ }
+    ensures { λ r. ⌜ Puts (rowLine (now (chunk .entry)) (rowWords row)) (now (out .entry)) at (now (out .exit)) r ⌝ }
 {
     if row.item == 1 {
         return print::line(out, at, b"live", &numbers(record_of(row), chunk));
@@ -28,7 +28,7 @@ pub fn line(out: &mut [u8], at: usize, row: Row, chunk: &[u8]) -> usize
 }
 
 fn record_of(row: Row) -> Record
-    ensures { λ r. ⌜ r ≡ rowRecord (wordsOf row) ⌝ }
+    ensures { λ r. ⌜ r ≡ rowRecord (rowWords row) ⌝ }
 {
     Record {
         offset: row.place as usize,

@@ -14,7 +14,7 @@ use Rattle.cursor.specs.Answers.{countAnswer}
 use Rattle.record.specs.Chunk.{fieldsAt}
 use Rattle.record.specs.declared.Fields.{Fields}
 use Rattle.chunk.specs.Walk.{Choose, Reply}
-use Rattle.chunk.specs.Listing.{RowsAnswer, listsOn, rowsOf, wordsOf}
+use Rattle.chunk.specs.Listing.{RowsAnswer, listsOn, rowsOf, rowWords}
 use Rattle.chunk.specs.declared.Walk.{Walk}
 use Rattle.chunk.specs.declared.Row.{Row}
 use Rattle.chunk.proofs.OneStep.{stepped-one, resync-one}
@@ -63,8 +63,8 @@ list κs a x y s t p q = let e = lists-by _ _ _ _ _ (countAnswer x) (countAnswer
 abbrev rowBack : List ℕ → Row
 rowBack l = record { item = getD l 0 0; place = getD l 1 0; size = getD l 2 0; id = getD l 3 0; time = getD l 4 0 }
 
-row-one : (x y : Row) (b : List ℕ) → wordsOf x ≡ b → wordsOf y ≡ b → x ≡ y
-row-one = read-back wordsOf rowBack (λ x. refl)
+row-one : (x y : Row) (b : List ℕ) → rowWords x ≡ b → rowWords y ≡ b → x ≡ y
+row-one = read-back rowWords rowBack (λ x. refl)
 
 pub row : Single 0 rowK.ps rowK.r rowR.Post
 row κs a x y s t p q = row-one x y _ p q

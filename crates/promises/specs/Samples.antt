@@ -37,8 +37,8 @@ withDependency s = record { bytes = s; start = 0; len = length s; dependencies =
 abbrev pub withInline : List ℕ → Stream
 withInline s = record { bytes = s; start = 0; len = length s; dependencies = false; inline = true }
 
-abbrev pub walkOn : Stream → Walked
-walkOn x = walkOf (x .bytes) (x .start) (x .len) (record { dependencies = x .dependencies; inline = x .inline })
+abbrev pub walkOfStream : Stream → Walked
+walkOfStream x = walkOf (x .bytes) (x .start) (x .len) (record { dependencies = x .dependencies; inline = x .inline })
 
 -- what a walk gives: its sheet's words, or its refusal
 pub data Given : Type 0 where
@@ -79,9 +79,9 @@ pub data Sample : Type 0 where
   singles : List ℕ → Maybe ℕ → Sample
 
 abbrev pub Holds : Sample → Type 0
-Holds (reads x want) = givenOf (walkOn x) ≡ want
-Holds (bodies x lent answer left) = Answered lent left (walkOn x) answer
-Holds (values x at next) = firstValue (x .bytes) (walkOn x) ≡ given at next
+Holds (reads x want) = givenOf (walkOfStream x) ≡ want
+Holds (bodies x lent answer left) = Answered lent left (walkOfStream x) answer
+Holds (values x at next) = firstValue (x .bytes) (walkOfStream x) ≡ given at next
 Holds (hashes s h) = hashOf (unitsOf s) ≡ h
 Holds (singles s r) = singleOf s ≡ r
 

@@ -26,7 +26,7 @@ use Rattle.checksum_call.specs.Said.{saidOf}
 use Rattle.print.specs.Text.{ascii, page, put}
 use Rattle.stream_answers.specs.Modes.{ownersText, answerText, tableText, sheetText}
 use Rattle.stream_answers.specs.Walk.{walkText}
-use Rattle.promises.specs.Samples.{emptyElement, anInstance, whole, walkOn}
+use Rattle.promises.specs.Samples.{emptyElement, anInstance, whole, walkOfStream}
 
 abbrev part : ℕ → ℕ → Part
 part start len = record { start = start; len = len }
@@ -72,7 +72,7 @@ pub record Calls : Type 0 where
   -- `read_unsized`: an unknown code is refused after the code
   pub unknown : unsizedAt (0x16 ∷ []) 0 ≡ refused 7 1
   -- `sheet::count`: the end byte is no token
-  pub tokens : countedOf (walkOn (whole emptyElement)) ≡ gives 2
+  pub tokens : countedOf (walkOfStream (whole emptyElement)) ≡ gives 2
   -- `tokens::step`: the last token may run over; the header after a token is no part of it
   pub last : countedOf (walkOf emptyElement 0 1 plainly) ≡ gives 1
   pub before-header : walkText (0x02 ∷ 0x0F ∷ 1 ∷ 1 ∷ 0 ∷ 0x04 ∷ []) 0 6 plainly ≡ ascii "0 1 3\n5 1 5\nok 2\n"
@@ -100,5 +100,5 @@ pub record Calls : Type 0 where
   -- `stream_answers::owners`: as many words as tokens
   pub owners-line : ownersText (gives 2) (0 ∷ 1 ∷ 9 ∷ []) ≡ ascii "owners 0 1\n"
   -- `stream_answers::sheet_call`, `owners_call`: the answer's word, and all words that were lent
-  pub sheet-call : sheetText (walkOn (whole emptyElement)) (9 ∷ []) ≡ ascii "answer 9000000000000002\nwords 0000000000000009\n"
+  pub sheet-call : sheetText (walkOfStream (whole emptyElement)) (9 ∷ []) ≡ ascii "answer 9000000000000002\nwords 0000000000000009\n"
   pub owners-call : answerText (packedOf (gives 2)) ++ tableText (0 ∷ 1 ∷ 9 ∷ []) ≡ ascii "answer 0000000000000002\nwords 00000000 00000001 00000009\n"

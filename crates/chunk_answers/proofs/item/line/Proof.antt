@@ -1,6 +1,6 @@
 -- `line` meets its contract, item by item. Assumes nothing.
 use Rattle.print.proofs.Putting.{put-as}
-use Rattle.chunk.specs.Listing.{wordsOf}
+use Rattle.chunk.specs.Listing.{rowWords}
 use Rattle.chunk_answers.proofs.Walking.{live-row, carved-row, refused-row, last-row}
 use borrow.Author.Needs.{needs}
 use Rattle.chunk_answers.proofs.item.line.Statement.{statement}
@@ -27,7 +27,7 @@ same-length c = search needs
 returns : tie.Need-returns
 returns c =
     let a = c .before .before .before .before .before .before .before .before .before .before .before .before .args in
-    put-as (live-row (a .chunk .now) (wordsOf (a .row)) (a .row .item) _ _ (c .before .before .before .before .before .before .before .before .if1 .taken) (c .before .before .before .before .before .record-of .ensures) (c .before .before .before .before .numbers .ensures))
+    put-as (live-row (a .chunk .now) (rowWords (a .row)) (a .row .item) _ _ (c .before .before .before .before .before .before .before .before .if1 .taken) (c .before .before .before .before .before .record-of .ensures) (c .before .before .before .before .numbers .ensures))
     (c .before .before .line .ensures)
 
 slice-aggregate-line-3 : tie.Need-slice-aggregate-line-3
@@ -51,7 +51,7 @@ same-length-2 c = search needs
 returns-2 : tie.Need-returns-2
 returns-2 c =
     let a = c .before .before .before .before .before .before .before .before .before .before .before .before .before .before .args in
-    put-as (carved-row (a .chunk .now) (wordsOf (a .row)) (a .row .item) _ _ (c .before .before .before .before .before .before .before .before .if2 .taken) (c .before .before .before .before .before .record-of2 .ensures) (c .before .before .before .before .numbers2 .ensures))
+    put-as (carved-row (a .chunk .now) (rowWords (a .row)) (a .row .item) _ _ (c .before .before .before .before .before .before .before .before .if2 .taken) (c .before .before .before .before .before .record-of2 .ensures) (c .before .before .before .before .numbers2 .ensures))
     (c .before .before .line2 .ensures)
 
 slice-aggregate-line-5 : tie.Need-slice-aggregate-line-5
@@ -69,7 +69,7 @@ same-length-3 c = search needs
 returns-3 : tie.Need-returns-3
 returns-3 c =
     let a = c .before .before .before .before .before .before .before .before .before .before .before .before .before .before .args in
-    put-as (refused-row (a .chunk .now) (wordsOf (a .row)) (a .row .item) (c .before .before .before .before .before .before .if3 .taken)) (c .before .before .line3 .ensures)
+    put-as (refused-row (a .chunk .now) (rowWords (a .row)) (a .row .item) (c .before .before .before .before .before .before .if3 .taken)) (c .before .before .line3 .ensures)
 
 slice-aggregate-text : tie.Need-slice-aggregate-text
 slice-aggregate-text c = search needs
@@ -83,7 +83,7 @@ same-length-4 c = search needs
 returns-4 : tie.Need-returns-4
 returns-4 c =
     let a = c .before .before .before .before .before .before .before .before .before .before .before .before .before .args in
-    put-as (last-row (a .chunk .now) (wordsOf (a .row)) (a .row .item) (c .before .before .before .before .before .before .before .before .before .if1 .left) (c .before .before .before .before .before .before .before .if2 .left) (c .before .before .before .before .before .if3 .left)) (c .before .before .text .ensures)
+    put-as (last-row (a .chunk .now) (rowWords (a .row)) (a .row .item) (c .before .before .before .before .before .before .before .before .before .if1 .left) (c .before .before .before .before .before .before .before .if2 .left) (c .before .before .before .before .before .if3 .left)) (c .before .before .text .ensures)
 
 pub line-spec : {M : Type 1} → statement M
 line-spec =
