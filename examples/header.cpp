@@ -8,6 +8,11 @@ namespace {
 
 const uint64_t untouched = 0x5555555555555555;
 
+// The checksums of the headers and the two bytes below, as another program reckoned them.
+const uint32_t file_crc = 0x7CAE1AEB;
+const uint32_t chunk_crc = 0x7AB2A6E9;
+const uint32_t events_crc = 0xF5091701;
+
 bool holds(const char *what, bool so)
 {
     if (!so)
@@ -42,6 +47,8 @@ bool nothing_lent()
     bool so = true;
 
     so &= refuses("no bytes are no file", doortumble_list_file(nullptr, 0, 1, nullptr, 0), DOORTUMBLE_WRONG_FILE, 0);
+    so &= refuses("no bytes have no file header", doortumble_file_header(nullptr, 0, nullptr, 0), DOORTUMBLE_WRONG_FILE, 0);
+    so &= refuses("no bytes have no chunk header", doortumble_chunk_header(nullptr, 0, nullptr, 0), DOORTUMBLE_WRONG_LENGTH, 0);
     so &= refuses("no bytes are no chunk", doortumble_list(nullptr, 0, 1, nullptr, 0), DOORTUMBLE_WRONG_LENGTH, 0);
     so &= counts("no bytes have no token", doortumble_sheet(nullptr, 0, 0, 0, 0, 0, nullptr, 0), 0);
     so &= refuses("no bytes are no body", doortumble_owners(nullptr, 0, 0, 0, 0, 0, nullptr, 0), DOORTUMBLE_UNFINISHED, 0);
@@ -97,7 +104,7 @@ bool whole_file()
     so &= refuses("a row has six words", doortumble_list_file(file, 130, 1, rows, 5), DOORTUMBLE_NO_ROOM, 6);
     so &= holds("a refusal leaves the rows", rows[0] == untouched);
     so &= counts("the rest has a row", doortumble_list_file(file, 130, 1, rows, 7), 1);
-    so &= holds("the rest's chunk", doortumble_file_row_at(rows, 0).chunk == 128 && doortumble_first_chunk(file) == 128);
+    so &= holds("the rest's chunk", doortumble_file_row_at(rows, 0).chunk == 128);
     const doortumble_row row = doortumble_file_row_at(rows, 0).row;
     so &= holds("the rest's row", row.item == DOORTUMBLE_ROW_REFUSED && row.offset == 0 && row.size == DOORTUMBLE_WRONG_LENGTH &&
                                       row.id == 0 && row.filetime == 0);
@@ -106,11 +113,104 @@ bool whole_file()
     return so;
 }
 
+// Writes a number, the lowest byte first.
+void put(uint8_t *to, uint64_t number, unsigned bytes)
+{
+    for (unsigned n = 0; n < bytes; n++)
+        to[n] = uint8_t(number >> (8 * n));
+}
+
+// A file's header, each field with a number of its own.
+bool file_header()
+{
+    uint8_t file[128] = {'E', 'l', 'f', 'F', 'i', 'l', 'e', 0};
+    uint64_t words[12];
+    bool so = true;
+
+    for (uint64_t &word : words)
+        word = untouched;
+    put(file + 8, 0x0102030405060708, 8);
+    put(file + 16, 0x1112131415161718, 8);
+    put(file + 24, 0x2122232425262728, 8);
+    put(file + 32, 0x31323334, 4);
+    put(file + 36, 0x4142, 2);
+    put(file + 38, 0x5152, 2);
+    put(file + 40, 0x6162, 2);
+    put(file + 42, 0x7172, 2);
+    put(file + 120, DOORTUMBLE_FILE_DIRTY + DOORTUMBLE_FILE_FULL, 4);
+    put(file + 124, file_crc, 4);
+    so &= refuses("127 bytes have no header", doortumble_file_header(file, 127, words, 12), DOORTUMBLE_WRONG_FILE, 0);
+    so &= refuses("a file header has eleven words", doortumble_file_header(file, 128, words, 10), DOORTUMBLE_NO_ROOM, 11);
+    so &= holds("a refusal leaves the words", words[0] == untouched);
+    so &= counts("a file header", doortumble_file_header(file, 128, words, 12), DOORTUMBLE_FILE_HEADER_WORDS);
+    so &= holds("a word past the file header stays", words[11] == untouched);
+    const doortumble_file_header_fields h = doortumble_file_header_of(words);
+    so &= holds("the file header's chunks", h.first_chunk == 0x0102030405060708 && h.last_chunk == 0x1112131415161718);
+    so &= holds("the next record ID", h.next_record_id == 0x2122232425262728);
+    so &= holds("the file header's size and versions",
+                h.header_size == 0x31323334 && h.minor_version == 0x4142 && h.major_version == 0x5152);
+    so &= holds("block size and chunk count", h.block_size == 0x6162 && h.chunk_count == 0x7172);
+    so &= holds("the file's flags", h.flags == DOORTUMBLE_FILE_DIRTY + DOORTUMBLE_FILE_FULL);
+    so &= holds("the file header's checksum", h.checksum == file_crc && h.checksum_right == 1);
+    file[0x77] = 1;
+    so &= counts("a changed file header", doortumble_file_header(file, 128, words, 12), DOORTUMBLE_FILE_HEADER_WORDS);
+    so &= holds("its checksum is wrong", doortumble_file_header_of(words).checksum_right == 0);
+    return so;
+}
+
+// A chunk's header, each field with a number of its own, and two bytes of records.
+bool chunk_header()
+{
+    static uint8_t chunk[DOORTUMBLE_CHUNK_BYTES] = {'E', 'l', 'f', 'C', 'h', 'n', 'k', 0};
+    uint64_t words[13];
+    bool so = true;
+
+    for (uint64_t &word : words)
+        word = untouched;
+    put(chunk + 8, 0x0102030405060708, 8);
+    put(chunk + 16, 0x1112131415161718, 8);
+    put(chunk + 24, 0x2122232425262728, 8);
+    put(chunk + 32, 0x3132333435363738, 8);
+    put(chunk + 40, 0x41424344, 4);
+    put(chunk + 44, 0x51525354, 4);
+    put(chunk + 48, 514, 4);
+    put(chunk + 52, events_crc, 4);
+    put(chunk + 120, DOORTUMBLE_CHUNK_DIRTY, 4);
+    put(chunk + 124, chunk_crc, 4);
+    put(chunk + 512, 0x2A2A, 2);
+    so &= refuses("a byte less is no chunk", doortumble_chunk_header(chunk, 65535, words, 13), DOORTUMBLE_WRONG_LENGTH, 0);
+    so &= refuses("a chunk header has twelve words", doortumble_chunk_header(chunk, 65536, words, 11), DOORTUMBLE_NO_ROOM, 12);
+    so &= holds("a refusal leaves the words", words[0] == untouched);
+    so &= counts("a chunk header", doortumble_chunk_header(chunk, 65536, words, 13), DOORTUMBLE_CHUNK_HEADER_WORDS);
+    so &= holds("a word past the chunk header stays", words[12] == untouched);
+    const doortumble_chunk_header_fields h = doortumble_chunk_header_of(words);
+    so &= holds("record numbers", h.first_record_number == 0x0102030405060708 && h.last_record_number == 0x1112131415161718);
+    so &= holds("record IDs", h.first_record_id == 0x2122232425262728 && h.last_record_id == 0x3132333435363738);
+    so &= holds("header size and offsets",
+                h.header_size == 0x41424344 && h.last_record_offset == 0x51525354 && h.free_space_offset == 514);
+    so &= holds("the chunk's flags", h.flags == DOORTUMBLE_CHUNK_DIRTY);
+    so &= holds("the chunk header's checksum", h.header_checksum == chunk_crc && h.header_checksum_right == 1);
+    so &= holds("the events checksum", h.events_checksum == events_crc && h.events_checksum_right == 1);
+    chunk[513] = 0;
+    so &= counts("a changed record", doortumble_chunk_header(chunk, 65536, words, 13), DOORTUMBLE_CHUNK_HEADER_WORDS);
+    so &= holds("the events checksum alone is wrong", doortumble_chunk_header_of(words).header_checksum_right == 1 &&
+                                                          doortumble_chunk_header_of(words).events_checksum_right == 0);
+    chunk[128] = 1;
+    so &= counts("a changed table", doortumble_chunk_header(chunk, 65536, words, 13), DOORTUMBLE_CHUNK_HEADER_WORDS);
+    so &= holds("the header checksum is wrong", doortumble_chunk_header_of(words).header_checksum_right == 0);
+    chunk[0] = 'e';
+    so &= refuses("another magic is no chunk", doortumble_chunk_header(chunk, 65536, words, 13), DOORTUMBLE_WRONG_MAGIC, 0);
+    return so;
+}
+
 } // namespace
 
 int main()
 {
-    const bool so[] = {nothing_lent(), empty_element(), flags(), whole_file()};
+    const bool so[] = {nothing_lent(), empty_element(), flags(), whole_file(), file_header(), chunk_header()};
 
-    return so[0] && so[1] && so[2] && so[3] ? 0 : 1;
+    for (const bool one : so)
+        if (!one)
+            return 1;
+    return 0;
 }

@@ -16,6 +16,9 @@
 #ifndef ROWS_LEN
 #define ROWS_LEN(bytes) doortumble_file_words(bytes) // enough for a chunk's rows too
 #endif
+#ifndef HEADER_LEN
+#define HEADER_LEN DOORTUMBLE_FILE_HEADER_WORDS
+#endif
 #ifndef SHEET_LEN
 #define SHEET_LEN DOORTUMBLE_MOST_TOKENS
 #endif
@@ -363,20 +366,39 @@ static enum status print_chunk(struct job *job)
     return print_done(job, &counts);
 }
 
+// Where the first chunk of a log file begins, as its header says: the next ones stand each 65,536 bytes on.
+static enum status read_first_chunk(const struct job *job, size_t *at)
+{
+    uint64_t header[DOORTUMBLE_FILE_HEADER_WORDS];
+    uint64_t answer = doortumble_file_header(job->bytes, job->length, header, HEADER_LEN);
+
+    if (doortumble_number(answer) == DOORTUMBLE_NO_ROOM)
+        return tell_short_buffer("file header", HEADER_LEN, answer);
+    if (doortumble_refused(answer))
+        return tell_no_file(job, answer);
+    *at = doortumble_file_header_of(header).block_size;
+    return ALL_READ;
+}
+
 // The rows come in the order of the chunks. A chunk without a row, since it holds no record, has its line all the same.
 static enum status print_file(struct job *job)
 {
     struct counts counts = {0, 0, 0, 0};
-    uint64_t answer = doortumble_list_file(job->bytes, job->length, 1, job->rows, job->rows_len);
+    uint64_t answer;
     uint64_t n = 0;
     unsigned chunks = 0;
+    size_t first = 0;
     size_t at;
+    enum status status = read_first_chunk(job, &first);
 
+    if (status != ALL_READ)
+        return status;
+    answer = doortumble_list_file(job->bytes, job->length, 1, job->rows, job->rows_len);
     if (doortumble_number(answer) == DOORTUMBLE_NO_ROOM)
         return tell_short_buffer("rows", job->rows_len, answer);
     if (doortumble_refused(answer))
         return tell_no_file(job, answer);
-    for (at = doortumble_first_chunk(job->bytes); at < job->length; at += DOORTUMBLE_CHUNK_BYTES) {
+    for (at = first; at < job->length; at += DOORTUMBLE_CHUNK_BYTES) {
         printf("chunk offset %zu\n", at);
         chunks++;
         for (; n < doortumble_count(answer) && doortumble_file_row_at(job->rows, n).chunk == at; n++)
@@ -385,9 +407,9 @@ static enum status print_file(struct job *job)
     }
     if (chunks == 0)
         fprintf(stderr,
-                "records: %s holds no chunk: it has %zu bytes, and its first chunk would begin at %" PRIu32
-                ". If the log had records, its copy stopped early: fetch it again.\n",
-                job->name, job->length, doortumble_first_chunk(job->bytes));
+                "records: %s holds no chunk: it has %zu bytes, and its first chunk would begin at %zu. If the log had records, its"
+                " copy stopped early: fetch it again.\n",
+                job->name, job->length, first);
     printf("done chunks %u ", chunks);
     return print_done(job, &counts);
 }

@@ -1,11 +1,13 @@
 // doortumble.h: read Windows event logs from C (C99 or later) or C++.
 //
-// Four calls over what the caller lends:
+// Six calls over what the caller lends:
 //
-//   doortumble_list_file   the records of a whole log file, six words a row
-//   doortumble_list        the records of a chunk, five words a row
-//   doortumble_sheet       the tokens of a record's stream, a word a token
-//   doortumble_owners      which token each token belongs to, where the stream is one event body
+//   doortumble_list_file      the records of a whole log file, six words a row
+//   doortumble_list           the records of a chunk, five words a row
+//   doortumble_sheet          the tokens of a record's stream, a word a token
+//   doortumble_owners         which token each token belongs to, where the stream is one event body
+//   doortumble_file_header    the numbers of a log file's header, and whether its checksum is right
+//   doortumble_chunk_header   the numbers of a chunk's header, and whether its two checksums are right
 //
 // To read a record, hand its row to doortumble_owners and doortumble_sheet like this: the stream is the WHOLE chunk, since names
 // are offsets in the chunk (of a file: the 65,536 bytes from the row's chunk on); start and length are doortumble_payload_start
@@ -33,11 +35,13 @@ extern "C" {
 
 // ---------------------------------------------------------------------------------------------------------------- sizes
 
-#define DOORTUMBLE_CHUNK_BYTES 65536  // a chunk has exactly these; a stream has no more
-#define DOORTUMBLE_ROW_WORDS 5        // words in a row of a chunk's listing
-#define DOORTUMBLE_FILE_ROW_WORDS 6   // words in a row of a file's listing
-#define DOORTUMBLE_MOST_ROWS 4645     // no chunk has more rows
-#define DOORTUMBLE_MOST_TOKENS 65536  // no stream has more tokens: each is a byte at least
+#define DOORTUMBLE_CHUNK_BYTES 65536     // a chunk has exactly these; a stream has no more
+#define DOORTUMBLE_ROW_WORDS 5           // words in a row of a chunk's listing
+#define DOORTUMBLE_FILE_ROW_WORDS 6      // words in a row of a file's listing
+#define DOORTUMBLE_FILE_HEADER_WORDS 11  // words of a file's header
+#define DOORTUMBLE_CHUNK_HEADER_WORDS 12 // words of a chunk's header
+#define DOORTUMBLE_MOST_ROWS 4645        // no chunk has more rows
+#define DOORTUMBLE_MOST_TOKENS 65536     // no stream has more tokens: each is a byte at least
 
 // ------------------------------------------------------------------------------------------------------------- refusals
 
@@ -147,7 +151,7 @@ static inline uint64_t doortumble_place(uint64_t answer)
     return answer & 0xFFFFFFFFFF;
 }
 
-// How many rows or tokens there are. Only where the call did not refuse.
+// How many rows or tokens there are, or words of a header. Only where the call did not refuse.
 static inline uint64_t doortumble_count(uint64_t answer)
 {
     return answer & 0xFFFFFFFFFF;
@@ -226,8 +230,8 @@ static inline uint32_t doortumble_payload_length(doortumble_row row)
 //   - A chunk that does not begin like one (overwritten, or zeros that were never written) has one row: refused 4 at 0.
 //   - Where the file ends in the middle of a chunk, that rest has one row: refused 1 at 0.
 //   - A chunk without records has no row, and a file that ends at or before its first chunk has none at all.
-// The first chunk begins at doortumble_first_chunk, the next ones each 65,536 bytes on. How many chunks the header says there
-// are, and whether its checksum is right, decides nothing.
+// The first chunk begins at the header's block size (doortumble_file_header), the next ones each 65,536 bytes on. How many
+// chunks the header says there are, and whether its checksum is right, decides nothing.
 //
 // A refusal leaves the rows as they were; words past the last row stay. Nothing is kept or allocated, at most 1 MiB of stack is
 // needed, and a null pointer with length 0 is allowed.
@@ -238,12 +242,6 @@ uint64_t doortumble_list_file(const uint8_t *file, size_t file_len, uint32_t rec
 static inline size_t doortumble_file_words(size_t file_len)
 {
     return (file_len / DOORTUMBLE_CHUNK_BYTES + 1) * DOORTUMBLE_MOST_ROWS * DOORTUMBLE_FILE_ROW_WORDS;
-}
-
-// Where the first chunk of a file begins: what the header calls its block size, at 40. Only where the call did not refuse 18.
-static inline uint32_t doortumble_first_chunk(const uint8_t *file)
-{
-    return file[40] + 256u * file[41];
 }
 
 typedef struct doortumble_file_row {
@@ -260,6 +258,115 @@ static inline doortumble_file_row doortumble_file_row_at(const uint64_t *rows, u
     row.chunk = words[0];
     row.row = doortumble_row_at(words + 1, 0);
     return row;
+}
+
+// ---------------------------------------------------------------------------------------------------------- the headers
+
+// Read the header of a log file.
+//
+//   file, file_len     the bytes of the file, from its first on: 128 are enough, and more are not looked at
+//   words, words_len   lent for the header's words, and their length: DOORTUMBLE_FILE_HEADER_WORDS
+//
+// Answer: DOORTUMBLE_FILE_HEADER_WORDS, or a refusal: 18 where this is no log file, then 16 where the words are too few (its
+// place is the words needed). A wrong checksum is no refusal: it is one of the words.
+//
+// A refusal leaves the words as they were; words past the header's stay. Nothing is kept or allocated, at most 1 MiB of stack is
+// needed, and a null pointer with length 0 is allowed.
+uint64_t doortumble_file_header(const uint8_t *file, size_t file_len, uint64_t *words, size_t words_len);
+
+// Bits of a file's flags.
+enum {
+    DOORTUMBLE_FILE_DIRTY = 1,      // open when it was copied, or not closed as it should be: the header may lag behind the chunks
+    DOORTUMBLE_FILE_FULL = 2,       // it has its full size, and the oldest records give way to new ones or new ones are lost
+    DOORTUMBLE_FILE_NO_CHECKSUM = 4 // the header says that its checksum was not made
+};
+
+typedef struct doortumble_file_header_fields {
+    uint64_t first_chunk;    // number of the first chunk and of the last one, from 0
+    uint64_t last_chunk;
+    uint64_t next_record_id; // what the next record would have got
+    uint32_t header_size;
+    unsigned minor_version;
+    unsigned major_version;
+    uint32_t block_size;     // where the first chunk begins
+    uint32_t chunk_count;    // what the header says: chunks go on to the end of the file, whatever that is
+    uint32_t flags;          // see above
+    uint32_t checksum;       // as it is stored
+    int checksum_right;      // 1 where it is the CRC-32 of the header's first 120 bytes, whatever the flags say; else 0
+} doortumble_file_header_fields;
+
+// The fields of the words that doortumble_file_header wrote.
+static inline doortumble_file_header_fields doortumble_file_header_of(const uint64_t *words)
+{
+    doortumble_file_header_fields fields;
+
+    fields.first_chunk = words[0];
+    fields.last_chunk = words[1];
+    fields.next_record_id = words[2];
+    fields.header_size = words[3] & 0xFFFFFFFF;
+    fields.minor_version = words[4] & 0xFFFF;
+    fields.major_version = words[5] & 0xFFFF;
+    fields.block_size = words[6] & 0xFFFF;
+    fields.chunk_count = words[7] & 0xFFFF;
+    fields.flags = words[8] & 0xFFFFFFFF;
+    fields.checksum = words[9] & 0xFFFFFFFF;
+    fields.checksum_right = words[10] != 0;
+    return fields;
+}
+
+// Read the header of a chunk.
+//
+//   chunk, chunk_len   the bytes of one chunk, 65,536 of them
+//   words, words_len   lent for the header's words, and their length: DOORTUMBLE_CHUNK_HEADER_WORDS
+//
+// Answer: DOORTUMBLE_CHUNK_HEADER_WORDS, or a refusal: 1 or 4 where this is no chunk, then 16 where the words are too few (its
+// place is the words needed). A wrong checksum is no refusal: it is one of the words. All bytes before the free space are gone
+// through for the events checksum: some 40 microseconds.
+//
+// A refusal leaves the words as they were; words past the header's stay. Nothing is kept or allocated, at most 1 MiB of stack is
+// needed, and a null pointer with length 0 is allowed.
+uint64_t doortumble_chunk_header(const uint8_t *chunk, size_t chunk_len, uint64_t *words, size_t words_len);
+
+// Bits of a chunk's flags.
+enum {
+    DOORTUMBLE_CHUNK_DIRTY = 1,      // it was being written when it was copied, or the writer did not come to its end
+    DOORTUMBLE_CHUNK_NO_CHECKSUM = 4 // the header says that its checksums were not made
+};
+
+typedef struct doortumble_chunk_header_fields {
+    uint64_t first_record_number;
+    uint64_t last_record_number;
+    uint64_t first_record_id;
+    uint64_t last_record_id;
+    uint32_t header_size;
+    uint32_t last_record_offset;
+    uint32_t free_space_offset; // where the records end
+    uint32_t events_checksum;   // as it is stored
+    uint32_t flags;             // see above
+    uint32_t header_checksum;   // as it is stored
+    int header_checksum_right;  // 1 where it is the CRC-32 of bytes 0 to 119 and 128 to 511, whatever the flags say; else 0
+    int events_checksum_right;  // 1 where it is the CRC-32 of the bytes from 512 up to the free space offset, whatever the flags
+                                // say; else 0, and where that offset lies below 512 or past the chunk
+} doortumble_chunk_header_fields;
+
+// The fields of the words that doortumble_chunk_header wrote.
+static inline doortumble_chunk_header_fields doortumble_chunk_header_of(const uint64_t *words)
+{
+    doortumble_chunk_header_fields fields;
+
+    fields.first_record_number = words[0];
+    fields.last_record_number = words[1];
+    fields.first_record_id = words[2];
+    fields.last_record_id = words[3];
+    fields.header_size = words[4] & 0xFFFFFFFF;
+    fields.last_record_offset = words[5] & 0xFFFFFFFF;
+    fields.free_space_offset = words[6] & 0xFFFFFFFF;
+    fields.events_checksum = words[7] & 0xFFFFFFFF;
+    fields.flags = words[8] & 0xFFFFFFFF;
+    fields.header_checksum = words[9] & 0xFFFFFFFF;
+    fields.header_checksum_right = words[10] != 0;
+    fields.events_checksum_right = words[11] != 0;
+    return fields;
 }
 
 // ------------------------------------------------------------------------------------------------------------ the sheet

@@ -183,6 +183,14 @@ fn row_8_no_checksum() {
     let (rust, held) = both(&case(b'H', 0, 0, 0, &chunk(&[(120, "04")])));
     assert!(rust.contains("\nchecksum yes\n") && held.contains("\nchecksum no\n"));
     assert!(held.ends_with("\nmeets 8\ndiffers 8\n.\n"));
+    // One byte of records, whose checksum is not the 0 that is stored.
+    let no_events = chunk(&[(48, "01020000"), (120, "04")]);
+    differs(
+        8,
+        &case(b'E', 0, 0, 0, &no_events),
+        "events no\n",
+        "events yes\n",
+    );
 }
 
 #[test]
@@ -224,6 +232,7 @@ fn row_15_events_checksum() {
     assert!(EvtxChunkData::new(right.clone(), true).is_err());
     let (rust, held) = both(&case(b'H', 0, 0, 0, &right));
     assert!(rust == held && rust.contains("\nchecksum yes\n"));
+    same(&case(b'E', 0, 0, 0, &right), "events no\n");
 }
 
 #[test]

@@ -159,7 +159,7 @@ fn record_reads() {
 #[test]
 fn refused_chunks() {
     let chunk = listing_chunk();
-    for mode in *b"HW" {
+    for mode in *b"HEW" {
         assert_eq!(
             answers(&case(mode, 0, 0, 0, &chunk[1..])),
             "refused 1 0\n.\n"
@@ -186,6 +186,24 @@ fn header_checksum() {
     assert!(answer.starts_with(&format!(
         "header 0 0 7 7 0 512 540 0 0 {sum}\nchecksum yes\n"
     )));
+}
+
+#[test]
+fn events_checksum() {
+    let mut chunk = listing_chunk();
+    assert_eq!(answers(&case(b'E', 0, 0, 0, &chunk)), "events no\n.\n");
+    let sum = compare::checksum_ieee(&chunk[512..540]);
+    chunk[52..56].copy_from_slice(&sum.to_le_bytes());
+    assert_eq!(answers(&case(b'E', 0, 0, 0, &chunk)), "events yes\n.\n");
+    // A free space offset of 512 leaves no bytes, and their CRC is 0; below it and past the chunk there are none to look at.
+    chunk[52..56].fill(0);
+    for (free, said) in [(512, "yes"), (511, "no"), (65537, "no"), (u32::MAX, "no")] {
+        chunk[48..52].copy_from_slice(&free.to_le_bytes());
+        assert_eq!(
+            answers(&case(b'E', 0, 0, 0, &chunk)),
+            format!("events {said}\n.\n")
+        );
+    }
 }
 
 #[test]

@@ -11,6 +11,9 @@ pub fn of_one_chunk(random: &mut Random) -> Vec<Case> {
     if random.once_in(2) {
         cases.push(case(b'H', random.byte(), 0, &[], &chunk.bytes));
     }
+    if random.once_in(2) {
+        cases.push(case(b'E', random.byte(), 0, &[], &chunk.bytes));
+    }
     // Flags that a mode does not name are passed over.
     let more = random.one_of(&[0, 0, 2, 0xfe]);
     for recovery in 0..2 {

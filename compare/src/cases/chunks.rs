@@ -26,7 +26,10 @@ pub fn make(random: &mut Random) -> Chunk {
     for _ in 0..random.one_of(&[0, 1, 1, 1, 2, 2, 3, 5]) {
         chunk.damage(random);
     }
-    // Most headers have the right checksum, whatever was done to them.
+    // Many records and most headers have the right checksum, whatever was done to them.
+    if random.once_in(2) {
+        chunk.set_events_checksum();
+    }
     if !random.once_in(5) {
         chunk.set_checksum();
     }
@@ -204,6 +207,17 @@ impl Chunk {
         hasher.update(&self.bytes[..120]);
         hasher.update(&self.bytes[128..FIRST]);
         self.put32(124, hasher.finalize());
+    }
+
+    /// Of the bytes up to the free space offset, where it leads to some.
+    fn set_events_checksum(&mut self) {
+        let word = [48, 49, 50, 51].map(|at| self.bytes[at]);
+        let free = u32::from_le_bytes(word) as usize;
+        if let Some(records) = self.bytes.get(FIRST..free) {
+            let mut hasher = Hasher::new();
+            hasher.update(records);
+            self.put32(52, hasher.finalize());
+        }
     }
 
     fn size_at(&self, at: usize) -> usize {

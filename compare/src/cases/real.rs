@@ -86,6 +86,7 @@ fn of_chunk(chunk: &[u8], counts: &mut Counts) -> Vec<Case> {
     let at_chunk = |mode, flags, start| chunk_cases::case(mode, flags, start, &[], chunk);
     let mut cases = vec![
         at_chunk(b'H', 0, 0),
+        at_chunk(b'E', 0, 0),
         at_chunk(b'W', 0, 0),
         at_chunk(b'W', 1, 0),
     ];

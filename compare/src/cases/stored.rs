@@ -29,6 +29,9 @@ fn whole_chunks() -> Vec<Case> {
     let cut = chunk(&[(48, &65536_u32.to_le_bytes())]);
     vec![
         case(b'H', 0, 0, &[], &numbered()),
+        case(b'E', 0, 0, &[], &with_records()),
+        case(b'E', 0, 0, &[], &chunk(&[(48, &512_u32.to_le_bytes())])),
+        case(b'E', 0, 0, &[], &chunk(&[(48, &511_u32.to_le_bytes())])),
         case(b'R', 1, 600, &[], &damaged),
         case(b'W', 1, 0, &[], &damaged),
         case(b'W', 0, 0, &[], &damaged),
@@ -42,7 +45,7 @@ fn short_chunks() -> Vec<Case> {
     for length in [0, 1, 511, 512] {
         let mut short = chunk(&[]);
         short.truncate(length);
-        for mode in *b"HRW" {
+        for mode in *b"HERW" {
             cases.push(case(mode, 0xff, 512, &[], &short));
         }
         cases.push(case(b'P', 0, 0, &state([1, 512, 0, 0, 0]), &short));
@@ -99,6 +102,18 @@ fn numbered() -> Vec<u8> {
     hasher.update(&chunk[..120]);
     hasher.update(&chunk[128..512]);
     chunk[124..128].copy_from_slice(&hasher.finalize().to_le_bytes());
+    chunk
+}
+
+/// Records up to the chunk's end, with the right events checksum, whatever the flags say.
+fn with_records() -> Vec<u8> {
+    let mut chunk = chunk(&[(48, &65536_u32.to_le_bytes()), (120, &[4])]);
+    for (byte, place) in chunk[512..].iter_mut().zip(0_usize..) {
+        *byte = (place * 41 + place / 256 * 3 + 7) as u8;
+    }
+    let mut hasher = Hasher::new();
+    hasher.update(&chunk[512..]);
+    chunk[52..56].copy_from_slice(&hasher.finalize().to_le_bytes());
     chunk
 }
 

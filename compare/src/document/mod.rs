@@ -21,6 +21,7 @@ pub fn answer(case: &Case, out: &mut String) {
     let data = case.input();
     match case.mode {
         b'H' => header(data, out),
+        b'E' => events(data, out),
         b'R' => record(data, u64::from(case.start), case.flag(1), out),
         b'W' => walk(data, case.flag(1), out),
         b'F' => file::answer(data, out, |chunk, out| walk(chunk, case.flag(1), out)),
@@ -47,6 +48,15 @@ fn header(data: &[u8], out: &mut String) {
             out.push_str(&words("strings", &strings));
             out.push_str(&words("templates", &templates));
         }
+        Err(refusal) => out.push_str(&refused(refusal)),
+    }
+}
+
+/// Mode E.
+fn events(data: &[u8], out: &mut String) {
+    match Chunk::new(data) {
+        Ok(chunk) if chunk.events_checksum() => out.push_str("events yes\n"),
+        Ok(_) => out.push_str("events no\n"),
         Err(refusal) => out.push_str(&refused(refusal)),
     }
 }

@@ -41,7 +41,7 @@ impl Case {
     /// What a mode's data has before the chunk or the stream, in bytes; `None` where there is no such mode.
     fn front(mode: u8) -> Option<usize> {
         match mode {
-            b'H' | b'R' | b'W' | b'F' | b'T' | b'S' | b'O' => Some(0),
+            b'H' | b'E' | b'R' | b'W' | b'F' | b'T' | b'S' | b'O' => Some(0),
             b'P' => Some(STATE),
             b'C' => Some(ROOM),
             _ => None,
@@ -174,6 +174,7 @@ fn answer(case: &Case, out: &mut String) -> Met {
     let data = case.input();
     match case.mode {
         b'H' => chunk::answer_header(data, out),
+        b'E' => chunk::answer_events(data, out),
         b'R' => chunk::answer_record(data, u64::from(case.start), case.flag(1), out),
         b'W' => chunk::answer_walk(data, case.flag(1), out),
         b'P' => chunk::answer_step(data, case.state(), out),

@@ -1,15 +1,17 @@
 //! The chunk side: header, record read, resync offset, record walk.
 
-use crate::EvtxChunk;
 use crate::err::EvtxError;
 use crate::evtx_chunk::{EvtxChunkData, EvtxChunkHeader, RawRecord, chunk_header_crc, raw_walk};
 use crate::oracle::CHUNK_SIZE;
 use crate::oracle::differences::{Difference, Met};
 use crate::oracle::refusal::Refusal;
+use crate::{EvtxChunk, checksum_ieee};
 use std::fmt::Write;
 use std::ops::Range;
 
 const CHUNK_END: u64 = CHUNK_SIZE as u64;
+/// Where the header ends and the records begin.
+const FIRST_RECORD: usize = 512;
 /// Bytes of a record around its payload: 24 before it, and the size copy.
 const RECORD_HEAD: u64 = 24;
 const RECORD_FRAME: u64 = 28;
@@ -220,6 +222,15 @@ fn on_header(
     }
 }
 
+/// The printed chunk, for its checksum calls.
+fn printed(chunk: &[u8], header: EvtxChunkHeader) -> EvtxChunkData {
+    EvtxChunkData {
+        header,
+        data: chunk.to_vec(),
+        number: None,
+    }
+}
+
 /// Mode H.
 pub fn answer_header(chunk: &[u8], out: &mut String) -> Met {
     on_header(chunk, out, |header, out| say_header(chunk, header, out))
@@ -244,12 +255,7 @@ fn say_header(chunk: &[u8], header: EvtxChunkHeader, out: &mut String) -> Met {
 
     // The printed call, which also takes a header whose flags say that it stores no checksum.
     let equal = header.header_chunk_checksum == chunk_header_crc(chunk);
-    let chunk = EvtxChunkData {
-        header,
-        data: chunk.to_vec(),
-        number: None,
-    };
-    let valid = chunk.validate_header_checksum();
+    let valid = printed(chunk, header).validate_header_checksum();
     if valid != equal {
         met.insert(Difference::NoChecksum);
     }
@@ -262,6 +268,24 @@ fn say_header(chunk: &[u8], header: EvtxChunkHeader, out: &mut String) -> Met {
     });
     out.push_str(&strings);
     out.push_str(&templates);
+    met
+}
+
+/// Mode E.
+pub fn answer_events(chunk: &[u8], out: &mut String) -> Met {
+    on_header(chunk, out, |header, out| say_events(chunk, header, out))
+}
+
+fn say_events(chunk: &[u8], header: EvtxChunkHeader, out: &mut String) -> Met {
+    let mut met = Met::new();
+    let records = chunk.get(FIRST_RECORD..header.free_space_offset as usize);
+    let equal = records.is_some_and(|bytes| header.events_checksum == checksum_ieee(bytes));
+    // The printed call, which also takes a chunk whose flags say that it stores no checksum.
+    let valid = printed(chunk, header).validate_data_checksum();
+    if valid != equal {
+        met.insert(Difference::NoChecksum);
+    }
+    out.push_str(if valid { "events yes\n" } else { "events no\n" });
     met
 }
 

@@ -25,7 +25,7 @@ pub enum Difference {
     EndOutside = 6,
     /// The walk is silent where the chunk's end cuts a record's header.
     CutHeader = 7,
-    /// A header whose flags say that it stores no checksum has a right one.
+    /// A header whose flags say that it stores no checksums has right ones.
     NoChecksum = 8,
 }
 
@@ -113,7 +113,7 @@ impl Difference {
             Self::SidArray | Self::UnsizedBody => refused(document) == Some(8),
             // The record's end lies outside, or the chunk's end cuts its header.
             Self::EndOutside | Self::CutHeader => refused(document) == Some(3),
-            Self::NoChecksum => document == "checksum no",
+            Self::NoChecksum => ["checksum no", "events no"].contains(&document),
         }
     }
 

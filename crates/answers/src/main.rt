@@ -130,6 +130,7 @@ fn bad(out: &mut [u8], at: usize) -> Turn {
 fn least_data(mode: u8) -> usize {
     match mode {
         b'H' => 0,
+        b'E' => 0,
         b'R' => 0,
         b'W' => 0,
         b'P' => chunk_answers::STATE,
@@ -148,6 +149,7 @@ fn answer(out: &mut [u8], at: usize, case: Case, bytes: &[u8]) -> usize {
     let first = case.flags % 2 == 1;
     match mode {
         b'H' => chunk_answers::header(out, at, bytes),
+        b'E' => chunk_answers::events(out, at, bytes),
         b'R' => chunk_answers::record(out, at, bytes, case.start as usize, first),
         b'W' => chunk_answers::walk(out, at, bytes, first),
         b'P' => chunk_answers::step(out, at, bytes),

@@ -3,11 +3,10 @@
 use mathlib.Core.Path.{_≡_}
 use mathlib.Core.List.{List, _++_}
 use Prim.Native.Nat.{ℕ, suc, _≤_, _<_}
-use lib.Dec.{leb}
 use lib.ListN.{length, take, getD}
-use Rattle.cursor.specs.Answer.{Result, gives, refuses, pick}
-use Rattle.cursor.specs.Lent.{laid}
-use Rattle.cursor.specs.Refusals.{noBody, tooDeep, unfinished, noRoom}
+use Rattle.cursor.specs.Answer.{Result, gives, refuses}
+use Rattle.cursor.specs.Lent.{lentAnswer, lentLeft}
+use Rattle.cursor.specs.Refusals.{noBody, tooDeep, unfinished}
 use Rattle.tokens.specs.Token.{openKind}
 use Rattle.tokens.specs.Walk.{Walked, ok, bad}
 use Rattle.tokens.specs.declared.Token.{Token}
@@ -62,13 +61,11 @@ pub data Judged : Walked → Result (List ℕ) → Type 0 where
 
 -- "then 16": "lent sheet or table too short", "words needed". The answer for a verdict and a lent table
 abbrev pub tableAnswer : Result (List ℕ) → List ℕ → Result ℕ
-tableAnswer (gives words) lent = pick (leb (length words) (length lent)) (gives (length words)) (refuses noRoom (length words))
-tableAnswer (refuses k p) lent = refuses k p
+tableAnswer verdict lent = lentAnswer verdict lent
 
 -- "A refusal writes nothing." What the table holds then
 abbrev pub tableLeft : Result (List ℕ) → List ℕ → List ℕ
-tableLeft (gives words) lent = pick (leb (length words) (length lent)) (laid words lent) lent
-tableLeft (refuses k p) lent = lent
+tableLeft verdict lent = lentLeft verdict lent
 
 -- What the call answers for a walk and a lent table, and what it leaves in the table.
 pub record Answered (lent left : List ℕ) (w : Walked) (o : Result ℕ) : Type 0 where

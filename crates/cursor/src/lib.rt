@@ -6,7 +6,9 @@ mod raw;
 
 ghost use mathlib.Core.Path.{_≡_};
 ghost use lib.ListN.{getD};
-ghost use Rattle.cursor.specs.Answers.{u8Answer, u16Answer, u32Answer, u64Answer, movedAnswer, takenAnswer, textAnswer};
+ghost use Rattle.cursor.specs.Answer.{gives, pick};
+ghost use Rattle.cursor.specs.Answers.{u8Answer, u16Answer, u32Answer, u64Answer, movedAnswer, takenAnswer, textAnswer, countAnswer};
+ghost use Rattle.cursor.specs.Lent.{lentAnswer, lentLeft};
 ghost use Rattle.cursor.specs.Reads.{setTo, numberOf, startsWith, numberAt, takeAt, partOf, sidAt, arrayAt};
 ghost use Rattle.cursor.specs.Text.{unitsOf, countedAt, prefixedAt, zeroEndedAt};
 
@@ -173,6 +175,32 @@ pub fn begins(t: &[u8], magic: &[u8]) -> bool
         i += 1;
     }
     true
+}
+
+// A yes or no as a word.
+pub fn bit(b: bool) -> u64
+    ensures { λ r. ⌜ r ≡ pick b 1 0 ⌝ }
+{
+    if b { 1 } else { 0 }
+}
+
+// Words into lent ones, where these have room.
+pub fn lay(words: &[u64], lent: &mut [u64]) -> Counted
+    ensures { λ r. ⌜ countAnswer r ≡ lentAnswer (gives (now (words .entry))) (now (lent .entry)) ⌝ }
+    ensures { λ _. ⌜ now (lent .exit) ≡ lentLeft (gives (now (words .entry))) (now (lent .entry)) ⌝ }
+{
+    if lent.len() < words.len() {
+        return Counted::Refused(Refusal {
+            number: Refusal::NO_ROOM,
+            place: words.len(),
+        });
+    }
+    let mut i: usize = 0;
+    while i < words.len() {
+        lent[i] = words[i];
+        i += 1;
+    }
+    Counted::Count(words.len())
 }
 
 // The unit n of a run of units, or 0 past its end.

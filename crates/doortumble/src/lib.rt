@@ -1,10 +1,14 @@
-// The C calls: a stream's sheet, its owner table, and the listing of a chunk or of a whole log file. The C header is include/doortumble.h.
+// The C calls: a stream's sheet, its owner table, and the listing and the header of a chunk and of a whole log file. The C header is
+// include/doortumble.h.
 //
 // Each takes bytes, numbers and lent words, and answers one packed word. No call keeps anything between calls.
 use cursor::Counted;
 use tokens::Flags;
 ghost use mathlib.Core.Path.{_≡_};
 ghost use Rattle.cursor.specs.Answers.{countAnswer};
+ghost use Rattle.cursor.specs.Lent.{lentAnswer, lentLeft};
+ghost use Rattle.record.specs.Chunk.{headerWords};
+ghost use Rattle.log_file.specs.Header.{fileWords};
 ghost use Rattle.tokens.specs.Walk.{walkOf};
 ghost use Rattle.sheet.specs.Sheet.{sheetAnswer, sheetWords};
 ghost use Rattle.doortumble.specs.Calls.{flagOf, flagsOf, packedOf, OwnersPacked, ListPacked, ListFilePacked};
@@ -54,6 +58,24 @@ pub extern "C" fn doortumble_list_file(file: &[u8], recovery: u32, rows: &mut [u
     ensures { λ r. ⌜ ListFilePacked (now (file .entry)) (flagOf recovery) (now (rows .entry)) (now (rows .exit)) r ⌝ }
 {
     packed(log_file::list_file(file, recovery != 0, rows))
+}
+
+// The header of a chunk and whether its checksums are right, twelve words.
+#[no_mangle]
+pub extern "C" fn doortumble_chunk_header(chunk: &[u8], words: &mut [u64]) -> u64
+    ensures { λ r. ⌜ r ≡ packedOf (lentAnswer (headerWords (now (chunk .entry))) (now (words .entry))) ⌝ }
+    ensures { λ _. ⌜ now (words .exit) ≡ lentLeft (headerWords (now (chunk .entry))) (now (words .entry)) ⌝ }
+{
+    packed(record::lay_header(chunk, words))
+}
+
+// The header of a log file and whether its checksum is right, eleven words.
+#[no_mangle]
+pub extern "C" fn doortumble_file_header(file: &[u8], words: &mut [u64]) -> u64
+    ensures { λ r. ⌜ r ≡ packedOf (lentAnswer (fileWords (now (file .entry))) (now (words .entry))) ⌝ }
+    ensures { λ _. ⌜ now (words .exit) ≡ lentLeft (fileWords (now (file .entry))) (now (words .entry)) ⌝ }
+{
+    packed(log_file::lay_file_header(file, words))
 }
 
 fn flags(dependencies: u32, inline: u32) -> Flags

@@ -23,6 +23,7 @@ pub mod FitsValue
 pub mod FitsWalk
 pub mod Packed
 pub mod PackedFile
+pub mod PackedHeader
 pub mod PackedCalls
 pub mod Numbered
 pub mod Words

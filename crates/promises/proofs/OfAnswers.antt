@@ -16,6 +16,8 @@ use Rattle.listing_text.proofs.One.{listed-one}
 use Rattle.file_text.proofs.One.{file-listing-one, file-answers-one}
 use Rattle.chunk_answers.proofs.header.Kinds as headerK
 use Rattle.chunk_answers.proofs.header.Reads as headerR
+use Rattle.chunk_answers.proofs.events.Kinds as eventsK
+use Rattle.chunk_answers.proofs.events.Reads as eventsR
 use Rattle.chunk_answers.proofs.record.Kinds as record-atK
 use Rattle.chunk_answers.proofs.record.Reads as record-atR
 use Rattle.chunk_answers.proofs.walk.Kinds as whole-walkK
@@ -56,6 +58,10 @@ called-one w lent t u p q =
 pub header : (κs : Lfts 2) (a : Dens κs headerK.ps) (x y : resT headerK.r κs .Denot) (s t : AtExit (endedOf 2 headerK.ps headerK.r) κs)
     → headerR.Post κs a x s → headerR.Post κs a y t → (s .0 .now ≡ t .0 .now) × (x ≡ y)
 header κs a x y s t p q = puts-one _ _ _ _ _ _ _ _ refl p q
+
+pub events : (κs : Lfts 2) (a : Dens κs eventsK.ps) (x y : resT eventsK.r κs .Denot) (s t : AtExit (endedOf 2 eventsK.ps eventsK.r) κs)
+    → eventsR.Post κs a x s → eventsR.Post κs a y t → (s .0 .now ≡ t .0 .now) × (x ≡ y)
+events κs a x y s t p q = puts-one _ _ _ _ _ _ _ _ refl p q
 
 pub record-at : (κs : Lfts 2) (a : Dens κs record-atK.ps) (x y : resT record-atK.r κs .Denot) (s t : AtExit (endedOf 2 record-atK.ps record-atK.r) κs)
     → record-atR.Post κs a x s → record-atR.Post κs a y t → (s .0 .now ≡ t .0 .now) × (x ≡ y)

@@ -57,11 +57,15 @@ use Rattle.cursor.proofs.u64_at.Kinds as u64_atK
 use Rattle.cursor.proofs.u64_at.Reads as u64_atR
 use Rattle.cursor.proofs.begins.Kinds as beginsK
 use Rattle.cursor.proofs.begins.Reads as beginsR
+use Rattle.cursor.proofs.bit.Kinds as bitK
+use Rattle.cursor.proofs.bit.Reads as bitR
+use Rattle.cursor.proofs.lay.Kinds as layK
+use Rattle.cursor.proofs.lay.Reads as layR
 use Rattle.cursor.proofs.unit_at.Kinds as unit_atK
 use Rattle.cursor.proofs.unit_at.Reads as unit_atR
 use Rattle.cursor.proofs.Part.of.Kinds as ofK
 use Rattle.cursor.proofs.Part.of.Reads as ofR
-use Rattle.promises.proofs.One.{Single, read-back}
+use Rattle.promises.proofs.One.{Single, counted-one, read-back}
 
 abbrev u8Back : Answer ℕ → ReadU8
 u8Back (given v n) = U8.Value v (record { at = n })
@@ -198,3 +202,11 @@ unit-at κs a x y s t p q = p ∙ sym q
 pub of : (κs : Lfts 1) (a : Dens κs ofK.ps) (x y : resT ofK.r κs .Denot) (s t : AtExit (endedOf 1 ofK.ps ofK.r) κs)
     → ofR.Post κs a x s → ofR.Post κs a y t → x .now ≡ y .now
 of κs a x y s t p q = p ∙ sym q
+
+pub bit : Single 0 bitK.ps bitK.r bitR.Post
+bit κs a x y s t p q = p ∙ sym q
+
+-- answer and lent words
+pub lay : (κs : Lfts 2) (a : Dens κs layK.ps) (x y : resT layK.r κs .Denot) (s t : AtExit (endedOf 2 layK.ps layK.r) κs)
+    → layR.Post κs a x s → layR.Post κs a y t → (x ≡ y) × (s .1 .0 .now ≡ t .1 .0 .now)
+lay κs a x y s t p q = (counted-one x y _ (p .0) (q .0), p .1 ∙ sym (q .1))

@@ -15,6 +15,10 @@ use Rattle.doortumble.proofs.doortumble_list.Kinds as listK
 use Rattle.doortumble.proofs.doortumble_list.Reads as listR
 use Rattle.doortumble.proofs.doortumble_list_file.Kinds as fileK
 use Rattle.doortumble.proofs.doortumble_list_file.Reads as fileR
+use Rattle.doortumble.proofs.doortumble_chunk_header.Kinds as chunkHeaderK
+use Rattle.doortumble.proofs.doortumble_chunk_header.Reads as chunkHeaderR
+use Rattle.doortumble.proofs.doortumble_file_header.Kinds as fileHeaderK
+use Rattle.doortumble.proofs.doortumble_file_header.Reads as fileHeaderR
 use Rattle.checksum_call.proofs.doortumble_bench_checksum.Kinds as checksumK
 use Rattle.checksum_call.proofs.doortumble_bench_checksum.Reads as checksumR
 use Rattle.promises.proofs.OfChunk.{lists-by}
@@ -42,6 +46,14 @@ pub list-file : (κs : Lfts 2) (a : Dens κs fileK.ps) (x y : resT fileK.r κs .
 list-file κs a x y s t p q =
     let e = file-lists-by _ _ _ _ _ (p .0) (q .0) (fileAt _) (p .1 .1) (q .1 .1) in
     (p .1 .0 ∙ ap packedOf (e .0) ∙ sym (q .1 .0), e .1)
+
+pub chunk-header : (κs : Lfts 2) (a : Dens κs chunkHeaderK.ps) (x y : resT chunkHeaderK.r κs .Denot) (s t : AtExit (endedOf 2 chunkHeaderK.ps chunkHeaderK.r) κs)
+    → chunkHeaderR.Post κs a x s → chunkHeaderR.Post κs a y t → (x ≡ y) × (s .1 .0 .now ≡ t .1 .0 .now)
+chunk-header κs a x y s t p q = (p .0 ∙ sym (q .0), p .1 ∙ sym (q .1))
+
+pub file-header : (κs : Lfts 2) (a : Dens κs fileHeaderK.ps) (x y : resT fileHeaderK.r κs .Denot) (s t : AtExit (endedOf 2 fileHeaderK.ps fileHeaderK.r) κs)
+    → fileHeaderR.Post κs a x s → fileHeaderR.Post κs a y t → (x ≡ y) × (s .1 .0 .now ≡ t .1 .0 .now)
+file-header κs a x y s t p q = (p .0 ∙ sym (q .0), p .1 ∙ sym (q .1))
 
 pub checksum : Single 1 checksumK.ps checksumK.r checksumR.Post
 checksum κs a x y s t p q = p ∙ sym q

@@ -31,6 +31,8 @@ use Rattle.log_file.proofs.read_file_header.Kinds as headerK
 use Rattle.log_file.proofs.read_file_header.Reads as headerR
 use Rattle.log_file.proofs.check_file_header.Kinds as checkK
 use Rattle.log_file.proofs.check_file_header.Reads as checkR
+use Rattle.log_file.proofs.lay_file_header.Kinds as layK
+use Rattle.log_file.proofs.lay_file_header.Reads as layR
 use Rattle.log_file.proofs.piece_at.Kinds as pieceK
 use Rattle.log_file.proofs.piece_at.Reads as pieceR
 use Rattle.log_file.proofs.list_file.Kinds as listK
@@ -81,6 +83,11 @@ read-file-header κs a x y s t p q = file-one x y _ p q
 
 pub check-file-header : Single 1 checkK.ps checkK.r checkR.Post
 check-file-header κs a x y s t p q = check-one x y _ p q
+
+-- answer and lent words
+pub lay-file-header : (κs : Lfts 2) (a : Dens κs layK.ps) (x y : resT layK.r κs .Denot) (s t : AtExit (endedOf 2 layK.ps layK.r) κs)
+    → layR.Post κs a x s → layR.Post κs a y t → (x ≡ y) × (s .1 .0 .now ≡ t .1 .0 .now)
+lay-file-header κs a x y s t p q = (counted-one x y _ (p .0) (q .0), p .1 ∙ sym (q .1))
 
 pub piece-at : Single 1 pieceK.ps pieceK.r pieceR.Post
 piece-at κs a x y s t p q = piece-one x y _ p q

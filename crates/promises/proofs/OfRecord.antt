@@ -20,6 +20,10 @@ use Rattle.record.proofs.read_header.Kinds as headerK
 use Rattle.record.proofs.read_header.Reads as headerR
 use Rattle.record.proofs.check_header.Kinds as checkK
 use Rattle.record.proofs.check_header.Reads as checkR
+use Rattle.record.proofs.check_events.Kinds as eventsK
+use Rattle.record.proofs.check_events.Reads as eventsR
+use Rattle.record.proofs.lay_header.Kinds as layK
+use Rattle.record.proofs.lay_header.Reads as layR
 use Rattle.record.proofs.read_record.Kinds as recordK
 use Rattle.record.proofs.read_record.Reads as recordR
 use Rattle.record.proofs.read_plain.Kinds as plainK
@@ -28,7 +32,7 @@ use Rattle.record.proofs.read_strict.Kinds as strictK
 use Rattle.record.proofs.read_strict.Reads as strictR
 use Rattle.record.proofs.Record.payload.Kinds as payloadK
 use Rattle.record.proofs.Record.payload.Reads as payloadR
-use Rattle.promises.proofs.One.{Single, read-back}
+use Rattle.promises.proofs.One.{Single, counted-one, read-back}
 
 abbrev fieldsBack : Answer Fields → FieldsRead
 fieldsBack (given f n) = F.Read f
@@ -82,6 +86,14 @@ read-header κs a x y s t p q =
 
 pub check-header : Single 1 checkK.ps checkK.r checkR.Post
 check-header κs a x y s t p q = checksum-one x y _ p q
+
+pub check-events : Single 1 eventsK.ps eventsK.r eventsR.Post
+check-events κs a x y s t p q = checksum-one x y _ p q
+
+-- answer and lent words
+pub lay-header : (κs : Lfts 2) (a : Dens κs layK.ps) (x y : resT layK.r κs .Denot) (s t : AtExit (endedOf 2 layK.ps layK.r) κs)
+    → layR.Post κs a x s → layR.Post κs a y t → (x ≡ y) × (s .1 .0 .now ≡ t .1 .0 .now)
+lay-header κs a x y s t p q = (counted-one x y _ (p .0) (q .0), p .1 ∙ sym (q .1))
 
 pub read-record : Single 1 recordK.ps recordK.r recordR.Post
 read-record κs a x y s t p q = record-one x y _ p q

@@ -84,7 +84,7 @@ pub must-fits : (b : Bool) (k : ℕ) → k < 2 ^ 7 → Fits 65536 (must b k 0)
 must-fits true k h = omega arith
 must-fits false k h = (h, omega arith)
 
-fields-fit : (s : List ℕ) → Fits 65536 (fieldsAt s)
+pub fields-fit : (s : List ℕ) → Fits 65536 (fieldsAt s)
 unfolding fieldsAt
 fields-fit s =
     on 65536 (must (eqb (length s) chunkSize) wrongLength 0) _ (must-fits (eqb (length s) chunkSize) wrongLength (omega arith)) (λ x n h.

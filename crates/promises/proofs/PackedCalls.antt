@@ -6,11 +6,14 @@ use contract.Lifetimes.{Lfts}
 use borrow.Fn.Kinds.{Dens, GoodsP, resT, endedOf}
 use denote.Triple.Clauses.{AtExit}
 use lib.ListN.{length}
+use Rattle.cursor.specs.Lent.{lentAnswer}
+use Rattle.record.specs.Chunk.{headerWords}
 use Rattle.tokens.specs.Walk.{walkOf}
 use Rattle.sheet.specs.Sheet.{sheetAnswer}
 use Rattle.body.specs.Verdict.{Answered}
 use Rattle.chunk.specs.Walk.{startOf}
 use Rattle.chunk.specs.Listing.{Lists}
+use Rattle.log_file.specs.Header.{fileWords}
 use Rattle.log_file.specs.Listing.{FileLists}
 use Rattle.doortumble.specs.Calls.{flagOf, flagsOf}
 use Rattle.doortumble.proofs.doortumble_sheet.Kinds as sheetK
@@ -21,9 +24,14 @@ use Rattle.doortumble.proofs.doortumble_list.Kinds as listK
 use Rattle.doortumble.proofs.doortumble_list.Reads as listR
 use Rattle.doortumble.proofs.doortumble_list_file.Kinds as fileK
 use Rattle.doortumble.proofs.doortumble_list_file.Reads as fileR
+use Rattle.doortumble.proofs.doortumble_chunk_header.Kinds as chunkHeaderK
+use Rattle.doortumble.proofs.doortumble_chunk_header.Reads as chunkHeaderR
+use Rattle.doortumble.proofs.doortumble_file_header.Kinds as fileHeaderK
+use Rattle.doortumble.proofs.doortumble_file_header.Reads as fileHeaderR
 use Rattle.promises.specs.Packed.{unpackedOf, Bytes}
 use Rattle.promises.proofs.Packed.{sheet-kept, owners-told, list-told}
 use Rattle.promises.proofs.PackedFile.{list-file-told}
+use Rattle.promises.proofs.PackedHeader.{chunk-header-kept, file-header-kept}
 
 pub sheet : (κs : Lfts 2) (a : Dens κs sheetK.ps) (x : resT sheetK.r κs .Denot) (s : AtExit (endedOf 2 sheetK.ps sheetK.r) κs)
     → GoodsP κs sheetK.ps a → Bytes (a .0 .now) → sheetR.Post κs a x s
@@ -46,3 +54,11 @@ pub list-file : (κs : Lfts 2) (a : Dens κs fileK.ps) (x : resT fileK.r κs .De
     → length (a .0 .now) < 2 ^ 40 → fileR.Post κs a x s
     → FileLists (a .0 .now) (flagOf (a .1 .0)) (a .1 .1 .0 .now) (s .1 .1 .0 .now) (unpackedOf x)
 list-file κs a x s l p = list-file-told _ l _ _ _ x p
+
+pub chunk-header : (κs : Lfts 2) (a : Dens κs chunkHeaderK.ps) (x : resT chunkHeaderK.r κs .Denot) (s : AtExit (endedOf 2 chunkHeaderK.ps chunkHeaderK.r) κs)
+    → chunkHeaderR.Post κs a x s → unpackedOf x ≡ lentAnswer (headerWords (a .0 .now)) (a .1 .0 .now)
+chunk-header κs a x s p = ap unpackedOf (p .0) ∙ chunk-header-kept (a .0 .now) (a .1 .0 .now)
+
+pub file-header : (κs : Lfts 2) (a : Dens κs fileHeaderK.ps) (x : resT fileHeaderK.r κs .Denot) (s : AtExit (endedOf 2 fileHeaderK.ps fileHeaderK.r) κs)
+    → fileHeaderR.Post κs a x s → unpackedOf x ≡ lentAnswer (fileWords (a .0 .now)) (a .1 .0 .now)
+file-header κs a x s p = ap unpackedOf (p .0) ∙ file-header-kept (a .0 .now) (a .1 .0 .now)

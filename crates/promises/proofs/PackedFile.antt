@@ -19,7 +19,7 @@ use Rattle.promises.proofs.Fits.{Fits, on}
 use Rattle.promises.proofs.Packed.{InBits, answer-kept, small-bits, must-fits, chosen-bits}
 
 -- a file is refused at 0
-file-fits : (s : List ℕ) → Fits 65536 (fileAt s)
+pub file-fits : (s : List ℕ) → Fits 65536 (fileAt s)
 unfolding fileAt
 file-fits s =
     on 65536 (must (leb fileHeaderEnd (length s)) wrongFile 0) _ (must-fits (leb fileHeaderEnd (length s)) wrongFile (omega arith)) (λ x n h.

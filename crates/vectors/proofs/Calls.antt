@@ -2,12 +2,14 @@
 use mathlib.Core.Path.{refl}
 use Rattle.cursor.specs.Reads.{little, startsWith}
 use Rattle.cursor.specs.Text.{unitsOf, beforeZero}
+use Rattle.crc32.specs.Crc.{feedback, shiftBit, shiftBits, crcOver}
 use Rattle.name.specs.Hash.{hashFrom}
 use Rattle.value.specs.Kinds.{among, knownCode, widthOf}
 use Rattle.value.specs.Scalar.{bitsOf, realOf, unsignedOf, decodedOf}
 use Rattle.value.specs.Value.{sizedAt, unsizedAt}
 use Rattle.record.specs.Chunk.{fieldsAt, offsetsAt}
 use Rattle.record.specs.Record.{payloadOf}
+use Rattle.log_file.specs.Header.{fileAt}
 use Rattle.tokens.specs.Instance.{tableAt, valuesAt}
 use Rattle.tokens.specs.Single.{endsOf}
 use Rattle.tokens.specs.Table.{gistAt}
@@ -19,7 +21,7 @@ use Rattle.print.specs.Text.{put, each, decimalIn}
 use Rattle.vectors.specs.Calls.{Calls}
 
 pub calls : Calls
-unfolding little startsWith unitsOf beforeZero hashFrom among knownCode widthOf bitsOf realOf unsignedOf decodedOf sizedAt unsizedAt fieldsAt offsetsAt payloadOf tableAt valuesAt endsOf gistAt turnAt stepFrom walkFrom walkOf put each decimalIn readFrom valuesFrom answerText
+unfolding feedback shiftBit shiftBits crcOver fileAt little startsWith unitsOf beforeZero hashFrom among knownCode widthOf bitsOf realOf unsignedOf decodedOf sizedAt unsizedAt fieldsAt offsetsAt payloadOf tableAt valuesAt endsOf gistAt turnAt stepFrom walkFrom walkOf put each decimalIn readFrom valuesFrom answerText
 calls =
     record {
       read = refl;
@@ -33,6 +35,8 @@ calls =
       sid = refl;
       all-bytes = refl;
       unit = refl;
+      no-room = refl;
+      laid-words = refl;
       hash = refl;
       known = refl;
       width = refl;
@@ -47,6 +51,12 @@ calls =
       fields = refl;
       strings = refl;
       check = refl;
+      events-right = refl;
+      no-events = refl;
+      events-below = refl;
+      events-past = refl;
+      chunk-header = refl;
+      file-header = refl;
       payload = refl;
       start = refl;
       said = refl;

@@ -5,18 +5,21 @@ use mathlib.Core.Bool.{true, false}
 use mathlib.Core.List.{List, [], _∷_, _++_}
 use Prim.Native.Nat.{ℕ}
 use lib.ListN.{getD, replicate}
-use Rattle.cursor.specs.Answer.{given, refused, gives, just, nothing}
+use Rattle.cursor.specs.Answer.{given, refused, gives, refuses, just, nothing}
 use Rattle.cursor.specs.Reads.{numberAt, numberOf, setTo, takeAt, partOf, sidAt, startsWith}
+use Rattle.cursor.specs.Lent.{lentAnswer, lentLeft}
 use Rattle.cursor.specs.Text.{unitsOf, countedAt, prefixedAt, zeroEndedAt}
 use Rattle.cursor.specs.declared.Part.{Part}
 use Rattle.cursor.specs.declared.View.{View}
 use Rattle.name.specs.Hash.{hashOf}
 use Rattle.value.specs.Kinds.{knownCode, widthOf, elementWidthOf}
 use Rattle.value.specs.Value.{unsizedAt}
-use Rattle.record.specs.Chunk.{fieldsAt, stringsOf, checksumAt}
+use Rattle.record.specs.Chunk.{fieldsAt, stringsOf, checksumAt, eventsRight, headerWords}
 use Rattle.record.specs.Record.{payloadOf}
+use Rattle.record.specs.declared.Fields.{Fields}
 use Rattle.chunk.specs.Walk.{startOf}
 use Rattle.chunk.specs.declared.Place.the-variants as P
+use Rattle.log_file.specs.Header.{fileWords}
 use Rattle.tokens.specs.Instance.{valuesOf, nextOf}
 use Rattle.tokens.specs.Single.{endsOf}
 use Rattle.tokens.specs.Walk.{walkOf, countedOf}
@@ -39,6 +42,30 @@ three = 1 ∷ 2 ∷ 3 ∷ []
 
 abbrev plainly : Flags
 plainly = record { dependencies = false; inline = false }
+
+-- a chunk's header with that free space offset and events checksum, and zeros
+abbrev freeAt : ℕ → ℕ → Fields
+freeAt free events =
+    record {
+      numbers = record { first = 0; last = 0 };
+      ids = record { first = 0; last = 0 };
+      size = 0;
+      last = 0;
+      free = free;
+      events = events;
+      flags = 0;
+      checksum = 0;
+    }
+
+-- 512 bytes and then these three
+abbrev afterHeader : List ℕ
+afterHeader = replicate 512 0 ++ three
+
+-- a file's header of 128 bytes with block size 4,096, the flags 3 and the right checksum
+abbrev fileHeader : List ℕ
+fileHeader =
+    0x45 ∷ 0x6C ∷ 0x66 ∷ 0x46 ∷ 0x69 ∷ 0x6C ∷ 0x65 ∷ 0 ∷ replicate 33 0 ++ (0x10 ∷ replicate 78 0)
+    ++ (3 ∷ 0 ∷ 0 ∷ 0 ∷ 0x8B ∷ 0x08 ∷ 0x0E ∷ 0xC4 ∷ [])
 
 pub record Calls : Type 0 where
   -- `u8` to `u64`: three bytes are no number of four; 3, where the read starts
@@ -63,6 +90,9 @@ pub record Calls : Type 0 where
   pub all-bytes : startsWith (0x2A ∷ 0x2B ∷ []) (0x2A ∷ 0x2A ∷ []) ≡ false
   -- `unit_at`: an odd byte at the end is no unit
   pub unit : getD (unitsOf three) 1 0 ≡ 0
+  -- `lay`: the words needed; words past those that are laid stay
+  pub no-room : lentAnswer (gives three) (9 ∷ 9 ∷ []) ≡ refuses 16 3
+  pub laid-words : lentLeft (gives three) (9 ∷ 9 ∷ 9 ∷ 9 ∷ []) ≡ 1 ∷ 2 ∷ 3 ∷ 9 ∷ []
   -- `name_hash`: the low 16 bits
   pub hash : hashOf (0xFFFF ∷ 0xFFFF ∷ []) ≡ 0xFFC0
   -- `Kind::known`, `width`, `element_width`
@@ -87,6 +117,17 @@ pub record Calls : Type 0 where
   pub strings : stringsOf [] ≡ replicate 64 0
   -- `check_header`: of no chunk neither yes nor no
   pub check : checksumAt three ≡ refused 1 0
+  -- `check_events`: the bytes from 512 up to the free space offset; with none of them 0 is right, and an offset below 512 or past the
+  -- chunk's end never
+  pub events-right : eventsRight afterHeader (freeAt 515 0x55BC801D) ≡ true
+  pub no-events : eventsRight afterHeader (freeAt 512 0) ≡ true
+  pub events-below : eventsRight afterHeader (freeAt 511 0) ≡ false
+  pub events-past : eventsRight afterHeader (freeAt 516 0x55BC801D) ≡ false
+  -- `record::lay_header`, `doortumble_chunk_header`: the chunk's own refusal comes before 16
+  pub chunk-header : packedOf (lentAnswer (headerWords three) []) ≡ 0x8100000000000000
+  -- `lay_file_header`, `doortumble_file_header`: the flags and the stored checksum, and 1 where it is right; the words past them stay
+  pub file-header : lentLeft (fileWords fileHeader) (replicate 12 9)
+      ≡ 0 ∷ 0 ∷ 0 ∷ 0 ∷ 0 ∷ 0 ∷ 4096 ∷ 0 ∷ 3 ∷ 0xC40E088B ∷ 1 ∷ 9 ∷ []
   -- `Record::payload`: the size minus 28 bytes, from 24 on
   pub payload : payloadOf (replicate 24 0 ++ (7 ∷ 8 ∷ 0 ∷ 0 ∷ 0 ∷ 0 ∷ [])) (record { offset = 0; size = 30; id = 0; time = 0 }) ≡ 7 ∷ 8 ∷ []
   -- `Walk::start`
