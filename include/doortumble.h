@@ -276,9 +276,9 @@ uint64_t doortumble_file_header(const uint8_t *file, size_t file_len, uint64_t *
 
 // Bits of a file's flags.
 enum {
-    DOORTUMBLE_FILE_DIRTY = 1,      // open when it was copied, or not closed as it should be: the header may lag behind the chunks
-    DOORTUMBLE_FILE_FULL = 2,       // it has its full size, and the oldest records give way to new ones or new ones are lost
-    DOORTUMBLE_FILE_NO_CHECKSUM = 4 // the header says that its checksum was not made
+    DOORTUMBLE_FILE_DIRTY = 1,      // not closed when it was copied: the header's numbers may lag behind the chunks
+    DOORTUMBLE_FILE_FULL = 2,       // it has reached its size
+    DOORTUMBLE_FILE_NO_CHECKSUM = 4 // the header says that it stores no checksum
 };
 
 typedef struct doortumble_file_header_fields {
@@ -329,8 +329,8 @@ uint64_t doortumble_chunk_header(const uint8_t *chunk, size_t chunk_len, uint64_
 
 // Bits of a chunk's flags.
 enum {
-    DOORTUMBLE_CHUNK_DIRTY = 1,      // it was being written when it was copied, or the writer did not come to its end
-    DOORTUMBLE_CHUNK_NO_CHECKSUM = 4 // the header says that its checksums were not made
+    DOORTUMBLE_CHUNK_DIRTY = 1,      // it was written to; full chunks with right checksums have it too, so it is no sign of damage
+    DOORTUMBLE_CHUNK_NO_CHECKSUM = 4 // the header says that it stores no checksums
 };
 
 typedef struct doortumble_chunk_header_fields {

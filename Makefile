@@ -1,0 +1,37 @@
+# make               the command and the library, in target/
+# make install       the command, its man page, the C header, the library and its pkg-config file, below PREFIX (in DESTDIR, if given)
+# make uninstall     takes them away again
+# make check         the gate
+# make clean         removes the command; what is proved stays
+PREFIX = /usr/local
+DESTDIR =
+CFLAGS = -O2
+ifeq ($(origin CC),default)
+CC = gcc
+endif
+
+prefix = $(abspath $(PREFIX))
+root = $(DESTDIR)$(prefix)
+installed = bin/doortumble share/man/man1/doortumble.1 include/doortumble.h lib/libdoortumble.a lib/pkgconfig/doortumble.pc
+
+all:
+	@CC='$(CC)' CFLAGS='$(CFLAGS)' command/build
+
+install: all
+	install -d $(addprefix '$(root)'/,bin share/man/man1 include lib/pkgconfig)
+	install -m 755 target/command/doortumble '$(root)/bin/'
+	install -m 644 command/doortumble.1 '$(root)/share/man/man1/'
+	install -m 644 include/doortumble.h '$(root)/include/'
+	install -m 644 target/staticlib/libdoortumble.a '$(root)/lib/'
+	sed 's|@PREFIX@|$(prefix)|; s|@VERSION@|'"$$(cat command/VERSION)"'|' command/doortumble.pc.in >'$(root)/lib/pkgconfig/doortumble.pc'
+
+uninstall:
+	rm -f $(addprefix '$(root)'/,$(installed))
+
+check:
+	.ci/run
+
+clean:
+	rm -rf target/command
+
+.PHONY: all install uninstall check clean

@@ -1,0 +1,148 @@
+#include "out.h"
+
+#include <errno.h>
+#include <poll.h>
+#include <string.h>
+#include <unistd.h>
+
+void out_start(struct out *out, int descriptor)
+{
+    out->descriptor = descriptor;
+    out->terminal = isatty(descriptor);
+    out->error = 0;
+    out->length = 0;
+}
+
+// A descriptor that does not wait, as a pipe that another program has left so.
+static void wait_for(int descriptor)
+{
+    struct pollfd ready;
+
+    ready.fd = descriptor;
+    ready.events = POLLOUT;
+    poll(&ready, 1, -1);
+}
+
+int out_flush(struct out *out)
+{
+    size_t done = 0;
+
+    while (out->error == 0 && done < out->length) {
+        ssize_t wrote = write(out->descriptor, out->bytes + done, out->length - done);
+
+        if (wrote >= 0)
+            done += (size_t)wrote;
+        else if (errno == EAGAIN || errno == EWOULDBLOCK)
+            wait_for(out->descriptor);
+        else if (errno != EINTR)
+            out->error = errno;
+    }
+    out->length = 0;
+    return out->error != 0;
+}
+
+int out_end(struct out *out)
+{
+    if (out_flush(out) == 0 && close(out->descriptor) != 0)
+        out->error = errno;
+    return out->error != 0;
+}
+
+char *out_room(struct out *out, size_t bytes)
+{
+    if (OUT_BYTES - out->length < bytes)
+        out_flush(out);
+    return out->bytes + out->length;
+}
+
+void out_took(struct out *out, const char *end)
+{
+    out->length = (size_t)(end - out->bytes);
+}
+
+void out_bytes(struct out *out, const char *bytes, size_t length)
+{
+    while (length > 0) {
+        size_t part = length < OUT_ROOM ? length : OUT_ROOM;
+        char *to = out_room(out, part);
+
+        memcpy(to, bytes, part);
+        out_took(out, to + part);
+        bytes += part;
+        length -= part;
+    }
+}
+
+void out_text(struct out *out, const char *text)
+{
+    out_bytes(out, text, strlen(text));
+}
+
+void out_number(struct out *out, uint64_t number)
+{
+    out_took(out, put_number(out_room(out, 20), number));
+}
+
+// -------------------------------------------------------------------------------------------------------------- numbers
+
+static unsigned digits_of(uint64_t number)
+{
+    unsigned digits = 1;
+    uint64_t next = 10; // 10 to the power of digits
+
+    while (digits < 20 && number >= next) {
+        digits++;
+        next *= 10; // at 20 digits it would not fit, and is not asked any more
+    }
+    return digits;
+}
+
+// Two digits at a time: a listing has some millions of them.
+char *put_padded(char *to, uint64_t number, unsigned digits)
+{
+    static const char pairs[] = "0001020304050607080910111213141516171819"
+                                "2021222324252627282930313233343536373839"
+                                "4041424344454647484950515253545556575859"
+                                "6061626364656667686970717273747576777879"
+                                "8081828384858687888990919293949596979899";
+    char *end = to + digits;
+
+    while (digits >= 2) {
+        digits -= 2;
+        memcpy(to + digits, pairs + 2 * (number % 100), 2);
+        number /= 100;
+    }
+    if (digits == 1)
+        to[0] = (char)('0' + number % 10);
+    return end;
+}
+
+char *put_number(char *to, uint64_t number)
+{
+    unsigned digits = digits_of(number);
+
+    return put_padded(to, number, digits);
+}
+
+char *put_right(char *to, uint64_t number, unsigned width)
+{
+    unsigned digits = digits_of(number);
+
+    if (digits < width) {
+        memset(to, ' ', width - digits);
+        to += width - digits;
+    }
+    return put_padded(to, number, digits);
+}
+
+char *put_left(char *to, const char *text, unsigned width)
+{
+    size_t length = strlen(text);
+
+    memcpy(to, text, length);
+    if (length < width) {
+        memset(to + length, ' ', width - length);
+        length = width;
+    }
+    return to + length;
+}
