@@ -10,17 +10,16 @@ use lib.Seq.{sets, sets-eq, length-sets}
 use Rattle.cursor.specs.Answer.{gives, refuses}
 use Rattle.cursor.specs.Lent.{laid}
 use Rattle.cursor.specs.Refusals.{noRoom}
-use Rattle.cursor.specs.declared.Refusal.{Refusal}
 use Rattle.sheet.proofs.Laying.{front}
 use Rattle.body.specs.Verdict.{deepest, tableAnswer, tableLeft}
-use Rattle.body.specs.Reader.{begin, Out, accepted, outcome, wordsFrom, walk, refusedBy, wholeOf}
+use Rattle.body.specs.Reader.{begin, Out, accepted, outcome, wordsFrom, walk, refused, wholeOf}
 use Rattle.body.specs.declared.reader.Read.{Read}
 use Rattle.body.specs.declared.reader.Read.the-variants as R
 use Rattle.body.proofs.Agree.{words-length}
 
 left-is : (r : Read) (left : List ℕ) (o : Out) (l : List ℕ) → wholeOf r left ≡ (o, l) → left ≡ l
 left-is (R.Next j) left o l e = ap (λ (x : Out × List ℕ). x .1) e
-left-is (R.Refused r) left o l e = ap (λ (x : Out × List ℕ). x .1) e
+left-is (R.Refused p k) left o l e = ap (λ (x : Out × List ℕ). x .1) e
 
 module _ (t : List ℕ) where
   abbrev words : List ℕ
@@ -32,9 +31,9 @@ module _ (t : List ℕ) where
     unfolding walk
     whole-accepted j h = sym (ap (λ (x : Out × List ℕ). x .0) (ap (λ (r : Read). wholeOf r left) (sym h) ∙ e))
 
-    pub whole-refused : (y : Refusal) → r ≡ R.Refused y → outcome deepest begin 0 t ≡ refusedBy y
+    pub whole-refused : (p k : ℕ) → r ≡ R.Refused p k → outcome deepest begin 0 t ≡ refused k p
     unfolding walk
-    whole-refused y h = sym (ap (λ (x : Out × List ℕ). x .0) (ap (λ (r : Read). wholeOf r left) (sym h) ∙ e))
+    whole-refused p k h = sym (ap (λ (x : Out × List ℕ). x .0) (ap (λ (r : Read). wholeOf r left) (sym h) ∙ e))
 
     whole-table : left ≡ sets table 0 words
     unfolding walk

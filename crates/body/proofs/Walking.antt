@@ -235,7 +235,7 @@ at-end t left (R.Next j) =
     either (λ (r : Read). wholeOf r left ≡ walk t (inside []) j left) (ltb j (length t)) _ _
     (λ e. over-more t j left (ltb-true j (length t) e))
     (λ e. over-ended t j left (ltb-false j (length t) e))
-at-end t left (R.Refused r) = refl
+at-end t left (R.Refused p k) = refl
 
 -- a leaf's answer, taken apart
 pub resumed : (t left : List ℕ) (x : Out × List ℕ) (s : State) (r r′ : Read) → resume t s r left ≡ x → r ≡ r′ → resume t s r′ left ≡ x
@@ -251,9 +251,9 @@ module _ (t : List ℕ) (at : ℕ) where
   -- what is further than a later token is further than an earlier one
   pub later : (i : ℕ) (r : Read) → at ≤ i → further t i r → further t at r
   later i (R.Next j) l h = (omega (arith, h .0), h .1)
-  later i (R.Refused r) l h = h
+  later i (R.Refused p k) l h = h
 
   pub tag-later : (i : ℕ) (r : Tagged) → at ≤ i → tagFurther t i r → tagFurther t at r
   tag-later i (T.Empty j) l h = (omega (arith, h .0), h .1)
   tag-later i (T.Full j) l h = (omega (arith, h .0), h .1)
-  tag-later i (T.Refused r) l h = h
+  tag-later i (T.Refused p k) l h = h

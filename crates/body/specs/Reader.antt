@@ -10,7 +10,6 @@ use lib.ListN.{length, take, drop, set}
 use lib.Seq.{sets}
 use Rattle.cursor.specs.Answer.{Result, gives, refuses, pick}
 use Rattle.cursor.specs.Refusals.{noBody, tooDeep, unfinished}
-use Rattle.cursor.specs.declared.Refusal.{Refusal}
 use Rattle.tokens.specs.Token.{instanceKind, openKind, closeStartKind, closeEmptyKind, closeElementKind, valueKind, attributeKind, entityRefKind, piTargetKind, piDataKind, cdataKind, charRefKind, substitutionKind}
 use Rattle.body.specs.Grammar.{kindOf}
 use Rattle.body.specs.Verdict.{deepest}
@@ -94,28 +93,25 @@ wordsFrom limit s n (k ∷ ks) = elim (step limit s n k) [ move w s′ ↦ w ∷
 unfoldable pub walk : List ℕ → State → ℕ → List ℕ → Out × List ℕ
 walk t s n table = (outcome deepest s n (drop n t), sets table n (wordsFrom deepest s n (drop n t)))
 
-abbrev pub refusedBy : Refusal → Out
-refusedBy r = refused (r .number) (r .place)
-
 -- a reader that goes on has read a token at least, and stays within the tokens
 abbrev pub further : List ℕ → ℕ → Read → Type 0
 further t at (R.Next j) = (at < j) × (j ≤ length t)
-further t at (R.Refused r) = Unit {0}
+further t at (R.Refused p k) = Unit {0}
 
 abbrev pub tagFurther : List ℕ → ℕ → Tagged → Type 0
 tagFurther t at (T.Empty j) = (at < j) × (j ≤ length t)
 tagFurther t at (T.Full j) = (at < j) × (j ≤ length t)
-tagFurther t at (T.Refused r) = Unit {0}
+tagFurther t at (T.Refused p k) = Unit {0}
 
 -- the whole answer, where a reader's answer leaves the state s behind it
 abbrev pub resume : List ℕ → State → Read → List ℕ → Out × List ℕ
 resume t s (R.Next j) table = walk t s j table
-resume t s (R.Refused r) table = (refusedBy r, table)
+resume t s (R.Refused p k) table = (refused k p, table)
 
 abbrev pub tagResume : List ℕ → ℕ → List ℕ → Tagged → List ℕ → Out × List ℕ
 tagResume t me st (T.Empty j) table = walk t (inside st) j table
 tagResume t me st (T.Full j) table = walk t (inside (me ∷ st)) j table
-tagResume t me st (T.Refused r) table = (refusedBy r, table)
+tagResume t me st (T.Refused p k) table = (refused k p, table)
 
 -- the whole answer from an open token at `at` on
 abbrev pub onStep : List ℕ → ℕ → List ℕ → Step → Out × List ℕ
@@ -144,13 +140,13 @@ TagEndRead t at me table r left = (last : ℕ) → TagRead t at last me table r 
 
 -- "A body is one" element: nothing follows it
 abbrev pub atEnd : List ℕ → Read → Read
-atEnd t (R.Next j) = pick (ltb j (length t)) (R.Refused (record { number = noBody; place = j })) (R.Next j)
-atEnd t (R.Refused r) = R.Refused r
+atEnd t (R.Next j) = pick (ltb j (length t)) (R.Refused j noBody) (R.Next j)
+atEnd t (R.Refused p k) = R.Refused p k
 
 -- a whole body's answer
 abbrev pub wholeOf : Read → List ℕ → Out × List ℕ
 wholeOf (R.Next j) table = (accepted, table)
-wholeOf (R.Refused r) table = (refusedBy r, table)
+wholeOf (R.Refused p k) table = (refused k p, table)
 
 -- the verdict that the reader comes to
 abbrev pub verdictOf : Out → List ℕ → Result (List ℕ)

@@ -10,16 +10,18 @@ ghost use lib.ListN.{length, getD, set};
 ghost use Rattle.tokens.specs.Token.{closeElementKind, attributeKind, piTargetKind};
 ghost use Rattle.body.specs.Reader.{isOpen, isItem, isLeaf, further, tagFurther, ElementRead, ContentRead, LeafRead, TagRead, TagEndRead, atEnd, wholeOf, walk, begin};
 
+// The token after what was read, or a refusal's place and number. (The place comes first: it then lies in memory where the token's number
+// does. An element's answer goes through memory, and a byte laid over that number had it put there in pieces.)
 pub enum Read {
     Next(usize),
-    Refused(Refusal),
+    Refused(usize, u8),
 }
 
 // An open tag's end: close empty or close start, and the token after it.
 pub enum Tagged {
     Empty(usize),
     Full(usize),
-    Refused(Refusal),
+    Refused(usize, u8),
 }
 
 // Reads a whole body.
@@ -28,10 +30,7 @@ pub(crate) fn whole(kinds: &[u8], table: &mut [u32]) -> Read
     ensures { λ r. ⌜ wholeOf r (now (table .exit)) ≡ walk (now (kinds .entry)) begin 0 (now (table .entry)) ⌝ }
 {
     if kinds.len() == 0 {
-        return Read::Refused(Refusal {
-            number: Refusal::UNFINISHED,
-            place: 0,
-        });
+        return Read::Refused(0, Refusal::UNFINISHED);
     }
     if is_open(kinds[0]) {
         return at_end(kinds, element(kinds, 0, 0, 0, table));
@@ -40,10 +39,7 @@ pub(crate) fn whole(kinds: &[u8], table: &mut [u32]) -> Read
         put(table, 0, 0);
         return at_end(kinds, Read::Next(1));
     }
-    Read::Refused(Refusal {
-        number: Refusal::NO_BODY,
-        place: 0,
-    })
+    Read::Refused(0, Refusal::NO_BODY)
 }
 
 // "A body is one" instance or element: nothing follows what was read.
@@ -53,14 +49,11 @@ fn at_end(kinds: &[u8], got: Read) -> Read
     match got {
         Read::Next(next) => {
             if next < kinds.len() {
-                return Read::Refused(Refusal {
-                    number: Refusal::NO_BODY,
-                    place: next,
-                });
+                return Read::Refused(next, Refusal::NO_BODY);
             }
             Read::Next(next)
         }
-        Read::Refused(r) => Read::Refused(r),
+        Read::Refused(place, number) => Read::Refused(place, number),
     }
 }
 
@@ -71,17 +64,14 @@ fn element(kinds: &[u8], at: usize, above: usize, owner: u32, table: &mut [u32])
     ensures { λ r. ⌜ ElementRead (now (kinds .entry)) at above owner (now (table .entry)) r (now (table .exit)) ⌝ }
 {
     if above >= 64 {
-        return Read::Refused(Refusal {
-            number: Refusal::TOO_DEEP,
-            place: at,
-        });
+        return Read::Refused(at, Refusal::TOO_DEEP);
     }
     put(table, at, owner);
     let me = (at + 1) as u32;
     match open_tag(kinds, at + 1, me, table) {
         Tagged::Empty(next) => Read::Next(next),
         Tagged::Full(next) => content(kinds, next, above, me, table),
-        Tagged::Refused(r) => Read::Refused(r),
+        Tagged::Refused(place, number) => Read::Refused(place, number),
     }
 }
 
@@ -100,19 +90,16 @@ fn content(kinds: &[u8], at: usize, above: usize, me: u32, table: &mut [u32]) ->
         if is_open(kinds[i]) {
             match element(kinds, i, above + 1, me, table) {
                 Read::Next(next) => i = next,
-                Read::Refused(r) => return Read::Refused(r),
+                Read::Refused(place, number) => return Read::Refused(place, number),
             }
         } else {
             match leaf(kinds, i, me, table) {
                 Read::Next(next) => i = next,
-                Read::Refused(r) => return Read::Refused(r),
+                Read::Refused(place, number) => return Read::Refused(place, number),
             }
         }
     }
-    Read::Refused(Refusal {
-        number: Refusal::UNFINISHED,
-        place: i,
-    })
+    Read::Refused(i, Refusal::UNFINISHED)
 }
 
 // Reads what content holds beside elements: an item, CDATA, or an instruction.
@@ -129,10 +116,7 @@ fn leaf(kinds: &[u8], at: usize, me: u32, table: &mut [u32]) -> Read
         put(table, at, me);
         return Read::Next(at + 1);
     }
-    Read::Refused(Refusal {
-        number: Refusal::NO_BODY,
-        place: at,
-    })
+    Read::Refused(at, Refusal::NO_BODY)
 }
 
 // Reads a PI target and the PI data that must follow it.
@@ -143,16 +127,10 @@ fn instruction(kinds: &[u8], at: usize, me: u32, table: &mut [u32]) -> Read
 {
     put(table, at, me);
     if at + 1 >= kinds.len() {
-        return Read::Refused(Refusal {
-            number: Refusal::UNFINISHED,
-            place: at + 1,
-        });
+        return Read::Refused(at + 1, Refusal::UNFINISHED);
     }
     if kinds[at + 1] != Token::PI_DATA {
-        return Read::Refused(Refusal {
-            number: Refusal::NO_BODY, // nothing else may follow a target
-            place: at + 1,
-        });
+        return Read::Refused(at + 1, Refusal::NO_BODY); // nothing else may follow a target
     }
     put(table, at + 1, me);
     Read::Next(at + 2)
@@ -174,10 +152,7 @@ fn open_tag(kinds: &[u8], at: usize, me: u32, table: &mut [u32]) -> Tagged
             last = i as u32;
         } else if is_item(k) {
             if last == 0 {
-                return Tagged::Refused(Refusal {
-                    number: Refusal::NO_BODY,
-                    place: i,
-                });
+                return Tagged::Refused(i, Refusal::NO_BODY);
             }
             put(table, i, last);
             i += 1;
@@ -185,10 +160,7 @@ fn open_tag(kinds: &[u8], at: usize, me: u32, table: &mut [u32]) -> Tagged
             return tag_end(kinds, i, me, table);
         }
     }
-    Tagged::Refused(Refusal {
-        number: Refusal::UNFINISHED,
-        place: i,
-    })
+    Tagged::Refused(i, Refusal::UNFINISHED)
 }
 
 // Reads the close token of an open tag.
@@ -205,10 +177,7 @@ fn tag_end(kinds: &[u8], at: usize, me: u32, table: &mut [u32]) -> Tagged
         put(table, at, me);
         return Tagged::Full(at + 1);
     }
-    Tagged::Refused(Refusal {
-        number: Refusal::NO_BODY,
-        place: at,
-    })
+    Tagged::Refused(at, Refusal::NO_BODY)
 }
 
 // An open token, by its mark.

@@ -93,7 +93,7 @@ content-returns-2 t c =
     let h = c .before .before .before .before .before .before .before .before .before .before .before .before .loop-test .taken in
     let got = c .before .before .before .before .before .element in (
       tt {0},
-      λ st e. walking.inside-child _ _ _ h _ st _ _ _ (sym (c .before .before .before .before .before .before .before .before .is-open .ensures) ∙ c .before .before .before .before .before .before .before .if2 .taken) (got .ensures .1 (_ ∷ st) (omega (arith, e))) (c .before .r .given .1) ∙ l .inv .3 st e,
+      λ st e. walking.inside-child _ _ _ h _ st _ _ _ (sym (c .before .before .before .before .before .before .before .before .is-open .ensures) ∙ c .before .before .before .before .before .before .before .if2 .taken) (got .ensures .1 (_ ∷ st) (omega (arith, e))) (c .before .place .given .1) ∙ l .inv .3 st e,
     )
 
 content-leaf-requires : (t : ℕ) → content-lts.Need-leaf-requires (content-claims t) (content-at t) content.Post content-Inv-loop content-μ-loop
@@ -117,7 +117,7 @@ content-returns-3 : (t : ℕ) → content-lts.Need-returns-3 (content-claims t) 
 content-returns-3 t c =
     let l = c .before .before .before .before .before .before .before .before .before .before .before .before .before .loop in
     let got = c .before .before .before .before .before .leaf in
-    (tt {0}, λ st e. walking.resumed _ _ _ _ _ _ (got .ensures .1 st) (c .before .r2 .given .1) ∙ l .inv .3 st e)
+    (tt {0}, λ st e. walking.resumed _ _ _ _ _ _ (got .ensures .1 st) (c .before .place2 .given .1) ∙ l .inv .3 st e)
 
 content-returns-4 : (t : ℕ) → content-lts.Need-returns-4 (content-claims t) (content-at t) content.Post content-Inv-loop content-μ-loop
 content-returns-4 t c = (tt {0}, λ st e. walking.inside-ended _ _ _ _ st (c .loop-test .left) ∙ c .before .loop .inv .3 st e)
@@ -160,7 +160,7 @@ element-returns-4 t c =
     let h = c .before .before .before .before .before .before .before .before .before .before .before .if1 .left in
     let p = c .before .before .before .before .before .before .before .before .before .put in
     let got = c .before .before .before .before .before .open-tag in
-    (tt {0}, λ st e. walking.opened-tag _ _ _ _ st _ _ _ _ (omega (arith, e, h)) (p .ensures) (got .ensures .1 st) (c .before .r .given .1))
+    (tt {0}, λ st e. walking.opened-tag _ _ _ _ st _ _ _ _ (omega (arith, e, h)) (p .ensures) (got .ensures .1 st) (c .before .place .given .1))
 
 pub +content+element-spec : {M : Type 1} → statement M
 +content+element-spec =
