@@ -30,16 +30,28 @@ bool counts(const char *what, uint64_t answer, uint64_t count)
     return holds(what, !doortumble_refused(answer) && doortumble_number(answer) == 0 && doortumble_count(answer) == count);
 }
 
-// Whether a stream, read with these flags, begins with an open token of such a length, number and flag.
-bool opens(const uint8_t *stream, size_t stream_len, uint32_t dependencies, uint32_t inline_names, uint32_t length, unsigned number,
-           unsigned flag)
-{
-    uint64_t sheet[2] = {0, 0};
-    const uint64_t answer = doortumble_sheet(stream, stream_len, 0, uint32_t(stream_len), dependencies, inline_names, sheet, 2);
-    const doortumble_token token = doortumble_token_of(sheet[0]);
+// What is held of an open token.
+struct open_token {
+    uint32_t length;
+    unsigned number;
+    unsigned flag;
+    unsigned announced;
+    uint32_t name;
+};
 
-    return !doortumble_refused(answer) && token.kind == DOORTUMBLE_KIND_OPEN && token.place == 0 && token.length == length &&
-           token.number == number && token.flag == flag;
+// Whether a stream, read with these flags, is such an open token and a close empty.
+bool opens(const uint8_t *stream, size_t stream_len, uint32_t dependencies, uint32_t inline_names, const open_token &open)
+{
+    uint64_t sheet[4] = {0, 0, untouched, untouched};
+    const uint64_t answer = doortumble_sheet(stream, stream_len, 0, uint32_t(stream_len), dependencies, inline_names, sheet, 4);
+    const doortumble_token token = doortumble_token_at(sheet, 0);
+    const doortumble_token close = doortumble_token_at(sheet, 1);
+
+    return !doortumble_refused(answer) && doortumble_count(answer) == 2 && token.kind == DOORTUMBLE_KIND_OPEN && token.place == 0 &&
+           token.length == open.length && token.number == open.number && token.flag == open.flag &&
+           token.announced == open.announced && token.name == open.name && doortumble_has_name(token) &&
+           close.kind == DOORTUMBLE_KIND_CLOSE_EMPTY && close.place == open.length && close.length == 1 && close.number == 0 &&
+           close.flag == 0 && close.announced == 0 && close.name == 0 && !doortumble_has_name(close);
 }
 
 bool nothing_lent()
@@ -60,21 +72,23 @@ bool nothing_lent()
 bool empty_element()
 {
     const uint8_t stream[] = {0x01, 0, 0, 0, 0, 0x00, 0x02, 0, 0, 0x03, 0x00};
-    uint64_t sheet[3] = {untouched, untouched, untouched};
+    uint64_t sheet[5] = {untouched, untouched, untouched, untouched, untouched};
     uint32_t table[3] = {7, 7, 7};
     bool so = true;
 
-    so &= refuses("a sheet of one word is short", doortumble_sheet(stream, 11, 0, 11, 0, 0, sheet, 1), DOORTUMBLE_NO_ROOM, 2);
+    so &= refuses("a sheet of a word a token is short", doortumble_sheet(stream, 11, 0, 11, 0, 0, sheet, 2), DOORTUMBLE_NO_ROOM, 4);
+    so &= refuses("a sheet of three words is short", doortumble_sheet(stream, 11, 0, 11, 0, 0, sheet, 3), DOORTUMBLE_NO_ROOM, 4);
     so &= refuses("a table of no words is short", doortumble_owners(stream, 11, 0, 11, 0, 0, nullptr, 0), DOORTUMBLE_NO_ROOM, 2);
-    so &= holds("a refusal leaves the sheet", sheet[0] == untouched);
-    so &= counts("two tokens", doortumble_sheet(stream, 11, 0, 11, 0, 0, sheet, 3), 2);
-    so &= holds("the sheet's words", sheet[0] == 0x2000000024000000 && sheet[1] == 0x4000480004000000);
-    so &= holds("a word past the sheet stays", sheet[2] == untouched);
+    so &= holds("a refusal leaves the sheet", sheet[0] == untouched && sheet[1] == untouched && sheet[2] == untouched);
+    so &= counts("two tokens", doortumble_sheet(stream, 11, 0, 11, 0, 0, sheet, 5), 2);
+    so &= holds("the first token's words", sheet[0] == 0x2000000024000000 && sheet[1] == 0x0000020000000000);
+    so &= holds("the second token's words", sheet[2] == 0x4000480004000000 && sheet[3] == 0);
+    so &= holds("a word past the sheet stays", sheet[4] == untouched);
     so &= counts("two owners", doortumble_owners(stream, 11, 0, 11, 0, 0, table, 3), 2);
     so &= holds("the owners", !doortumble_has_owner(table[0]) && doortumble_has_owner(table[1]) && doortumble_owner(table[1]) == 0);
     so &= holds("a word past the table stays", table[2] == 7);
-    so &= counts("a start past the open token, one byte long", doortumble_sheet(stream, 11, 9, 1, 0, 0, sheet, 3), 1);
-    so &= holds("that byte is the close token", sheet[0] == 0x4000480004000000);
+    so &= counts("a start past the open token, one byte long", doortumble_sheet(stream, 11, 9, 1, 0, 0, sheet, 2), 1);
+    so &= holds("that byte is the close token", sheet[0] == 0x4000480004000000 && sheet[1] == 0);
     return so;
 }
 
@@ -83,11 +97,15 @@ bool flags()
     const uint8_t none[] = {0x01, 0xFF, 0xFF, 0, 0, 0, 0, 0x00, 0x02, 0, 0, 0x03, 0x00};
     const uint8_t zero[] = {0x01, 0x00, 0x00, 0, 0, 0, 0, 0x00, 0x02, 0, 0, 0x03, 0x00};
     const uint8_t name[] = {0x01, 0, 0, 0, 0, 0x41, 0x10, 0x02, 0, 0x41, 0, 0x42, 0, 0, 0, 0x03, 0x00};
+    const uint8_t both[] = {0x41, 0xFE, 0xFF, 0, 0, 0, 0, 0xFE, 0xFF, 0xFF, 0xFF, 0, 0, 0, 0, 0x03, 0x00};
+    const uint8_t first[] = {0x41, 0, 0, 0, 0, 0, 0, 0, 0, 0, 0, 0, 0, 0x03, 0x00};
     bool so = true;
 
-    so &= holds("dependency FFFF is none", opens(none, sizeof none, 1, 0, 11, 0, 0));
-    so &= holds("dependency 0 is one", opens(zero, sizeof zero, 0x80000000, 0, 11, 0, 1));
-    so &= holds("an inline name", opens(name, sizeof name, 0, 0x80000000, 15, 0, 0));
+    so &= holds("dependency FFFF is none", opens(none, sizeof none, 1, 0, {11, 0, 0, 0, 512}));
+    so &= holds("dependency 0 is one", opens(zero, sizeof zero, 0x80000000, 0, {11, 0, 1, 0, 512}));
+    so &= holds("an inline name", opens(name, sizeof name, 0, 0x80000000, {15, 0, 0, 0, 5}));
+    so &= holds("byte 41, a dependency and a name far off", opens(both, sizeof both, 1, 0, {15, 0xFFFE, 1, 1, 0xFFFFFFFE}));
+    so &= holds("byte 41 and a name at 0", opens(first, sizeof first, 0, 0, {13, 0, 0, 1, 0}));
     return so;
 }
 

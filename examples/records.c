@@ -20,7 +20,7 @@
 #define HEADER_LEN DOORTUMBLE_FILE_HEADER_WORDS
 #endif
 #ifndef SHEET_LEN
-#define SHEET_LEN DOORTUMBLE_MOST_TOKENS
+#define SHEET_LEN (DOORTUMBLE_MOST_TOKENS * DOORTUMBLE_SHEET_WORDS)
 #endif
 #ifndef OWNERS_LEN
 #define OWNERS_LEN DOORTUMBLE_MOST_TOKENS
@@ -68,7 +68,8 @@ static void print_help(void)
           "What a line begins with:\n"
           "    chunk     of a log file: where the chunk begins in the file, in bytes\n"
           "    live      a record that belongs to the chunk; below it stand its tokens, each indented below the\n"
-          "              token that owns it, or one line that begins with 'refused'\n"
+          "              token that owns it, or one line that begins with 'refused'. 'name' is where a token's name\n"
+          "              stands, 'announced' says that an open token announces attributes\n"
           "    carved    an old record, found where no live one stands: not part of the log any more\n"
           "    refused   something that cannot be read: the refusal's number, its place, and what happened\n"
           "    done      the counts: chunks of a log file, live records, carved ones, what was refused, and live\n"
@@ -222,6 +223,15 @@ static int level_of(const uint32_t *owners, uint64_t n)
     return level;
 }
 
+// Where the name stands, of the kinds that have one. A name may stand at 0: only the kind tells whether there is any.
+static void print_name(doortumble_token token)
+{
+    if (doortumble_has_name(token))
+        printf(" name %" PRIu32, token.name);
+    if (token.announced)
+        fputs(" announced", stdout);
+}
+
 // The number and the flag, of the kinds that have them. A dependency of 0 is one: only the flag tells whether there is any.
 static void print_number(doortumble_token token)
 {
@@ -235,7 +245,7 @@ static void print_number(doortumble_token token)
 
 static void print_token(const struct job *job, uint64_t n)
 {
-    doortumble_token token = doortumble_token_of(job->sheet[n]);
+    doortumble_token token = doortumble_token_at(job->sheet, n);
 
     // One step below the record's own line, and one more for each level.
     printf("%*s%s %" PRIu64 " place %" PRIu32 " length %" PRIu32 " owner ", 2 + 2 * level_of(job->owners, n), "",
@@ -244,6 +254,7 @@ static void print_token(const struct job *job, uint64_t n)
         printf("%" PRIu32, doortumble_owner(job->owners[n]));
     else
         putchar('-');
+    print_name(token);
     print_number(token);
     putchar('\n');
 }

@@ -4,7 +4,7 @@
 //
 //   doortumble_list_file      the records of a whole log file, six words a row
 //   doortumble_list           the records of a chunk, five words a row
-//   doortumble_sheet          the tokens of a record's stream, a word a token
+//   doortumble_sheet          the tokens of a record's stream, two words a token
 //   doortumble_owners         which token each token belongs to, where the stream is one event body
 //   doortumble_file_header    the numbers of a log file's header, and whether its checksum is right
 //   doortumble_chunk_header   the numbers of a chunk's header, and whether its two checksums are right
@@ -42,6 +42,7 @@ extern "C" {
 #define DOORTUMBLE_CHUNK_HEADER_WORDS 12 // words of a chunk's header
 #define DOORTUMBLE_MOST_ROWS 4645        // no chunk has more rows
 #define DOORTUMBLE_MOST_TOKENS 65536     // no stream has more tokens: each is a byte at least
+#define DOORTUMBLE_SHEET_WORDS 2         // words of a token in a sheet
 
 // ------------------------------------------------------------------------------------------------------------- refusals
 
@@ -379,10 +380,12 @@ static inline doortumble_chunk_header_fields doortumble_chunk_header_of(const ui
 //                        plus length has taken bytes for its own that stand behind the record
 //   dependencies         not 0: open tokens carry a dependency, as in a template's definition; 0: they do not, as in a record
 //   inline_names         not 0: names stand in the stream itself; 0: names are offsets, as in a chunk
-//   sheet, sheet_len     lent for the sheet, and its length in words; DOORTUMBLE_MOST_TOKENS is always enough
+//   sheet, sheet_len     lent for the sheet, and its length in words; DOORTUMBLE_MOST_TOKENS * DOORTUMBLE_SHEET_WORDS is always
+//                        enough
 //
-// Answer: how many tokens there are, with a word for each in the sheet, or a refusal: 1, then the first that the walk meets (2,
-// 3, 7 to 12), then 16 where the sheet is too short (its place is the words needed, so a call with 0 words asks for them).
+// Answer: how many tokens there are, with two words for each in the sheet, or a refusal: 1, then the first that the walk meets
+// (2, 3, 7 to 12), then 16 where the sheet is too short (its place is the words needed, which are twice as many as the tokens, so
+// a call with 0 words asks for them).
 //
 // A refusal leaves the sheet as it was; words past the last token's stay. Nothing is kept or allocated, at most 1 MiB of stack
 // is needed, and a null pointer with length 0 is allowed.
@@ -392,7 +395,7 @@ uint64_t doortumble_sheet(const uint8_t *stream, size_t stream_len, uint32_t sta
 // The kinds of tokens, with their bytes in the stream.
 enum {
     DOORTUMBLE_KIND_INSTANCE = 1,      // 0C: a template with its values
-    DOORTUMBLE_KIND_OPEN = 2,          // 01, 41: an element's start tag begins
+    DOORTUMBLE_KIND_OPEN = 2,          // 01, 41: an element's start tag begins; 41 announces attributes
     DOORTUMBLE_KIND_CLOSE_START = 3,   // 02: the start tag ends, content follows
     DOORTUMBLE_KIND_CLOSE_EMPTY = 4,   // 03: the start tag ends, and the element with it
     DOORTUMBLE_KIND_CLOSE_ELEMENT = 5, // 04: the element ends
@@ -406,25 +409,63 @@ enum {
     DOORTUMBLE_KIND_SUBSTITUTION = 13  // 0D, 0E: a place for one of an instance's values
 };
 
-// A sheet's word, most significant bit first: kind 4 bits, place 17, length 17, number 16, flag 1, 9 zeros.
+// The two words of token n are sheet[2 * n] and sheet[2 * n + 1], most significant bit first:
+//
+//   bit    63   60 59           43 42           26 25          10  9   8  7      0
+//         +-------+---------------+---------------+--------------+---+---+--------+
+//   first | kind  |     place     |    length     |    number    | f | a | 0 .. 0 |
+//         |   4   |      17       |      17       |      16      | 1 | 1 |   8    |
+//         +-------+---------------+---------------+--------------+---+---+--------+
+//
+//   bit    63                            32 31                                   0
+//         +--------------------------------+--------------------------------------+
+//  second |         name's offset          |               0 .. 0                 |
+//         |               32               |                 32                   |
+//         +--------------------------------+--------------------------------------+
+//
+//   f  flag
+//   a  announced
+//
+// A sheet of the old layout has one word a token, and no name: its word n is the first word of token n here, sheet[2 * n], with
+// announced cleared (& ~(UINT64_C(1) << 8)). All other fields are in the same bits. So a program that was made for it lends twice
+// the words, takes token n with doortumble_token_at(sheet, n) in place of taking sheet[n] apart, and is refused 16 with twice the
+// place. The count in the answer is the count of tokens, as it was.
 typedef struct doortumble_token {
-    unsigned kind;   // 1 to 13, see above
-    uint32_t place;  // offset of the token's byte in the stream
-    uint32_t length; // bytes from there to where the next read begins
-    unsigned number; // open: its dependency; char ref: the char; substitution: the value's number; else 0
-    unsigned flag;   // open: 1 where it has a dependency (0 is one too); substitution: 1 where it is optional; else 0
+    unsigned kind;      // 1 to 13, see above
+    uint32_t place;     // offset of the token's byte in the stream
+    uint32_t length;    // bytes from there to where the next read begins
+    unsigned number;    // open: its dependency; char ref: the char; substitution: the value's number; else 0
+    unsigned flag;      // open: 1 where it has a dependency (0 is one too); substitution: 1 where it is optional; else 0
+    unsigned announced; // open: 1 where its byte is 41, which says that attributes follow, 0 where it is 01; else 0
+    uint32_t name;      // offset of its name in the stream, see doortumble_has_name; 0 where it has none
 } doortumble_token;
 
-static inline doortumble_token doortumble_token_of(uint64_t word)
+// Token n, counted from 0, of the sheet that doortumble_sheet wrote.
+static inline doortumble_token doortumble_token_at(const uint64_t *sheet, uint64_t n)
 {
+    const uint64_t *words = sheet + n * DOORTUMBLE_SHEET_WORDS;
     doortumble_token token;
 
-    token.kind = (unsigned)(word >> 60);
-    token.place = (word >> 43) & 0x1FFFF;
-    token.length = (word >> 26) & 0x1FFFF;
-    token.number = (word >> 10) & 0xFFFF;
-    token.flag = (word >> 9) & 1;
+    token.kind = (unsigned)(words[0] >> 60);
+    token.place = (words[0] >> 43) & 0x1FFFF;
+    token.length = (words[0] >> 26) & 0x1FFFF;
+    token.number = (words[0] >> 10) & 0xFFFF;
+    token.flag = (words[0] >> 9) & 1;
+    token.announced = (words[0] >> 8) & 1;
+    token.name = (words[1] >> 32) & 0xFFFFFFFF;
     return token;
+}
+
+// Not 0 where the token has a name: an open token, an attribute, an entity ref and a PI target have. Only this tells a name at
+// offset 0 from none.
+//
+// Where names are offsets, the offset is the one that the stream stores, whatever it is: nobody has looked at what stands there,
+// and it may lie past the stream's end. There stand the next name's offset (4 bytes), a hash (2), how many UTF-16 units the name
+// has (2), and the units. An inline name was read: at its offset stand the hash (2), the count (2) and the units.
+static inline int doortumble_has_name(doortumble_token token)
+{
+    return token.kind == DOORTUMBLE_KIND_OPEN || token.kind == DOORTUMBLE_KIND_ATTRIBUTE ||
+           token.kind == DOORTUMBLE_KIND_ENTITY_REF || token.kind == DOORTUMBLE_KIND_PI_TARGET;
 }
 
 // ------------------------------------------------------------------------------------------------------------ the owners

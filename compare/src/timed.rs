@@ -28,9 +28,10 @@ pub const MEMCHR: &str = env!("MEMCHR");
 /// The crc32fast that the printed code counts with; empty for the stand-in.
 pub const CRC: &str = env!("CRC");
 
-/// What of a sheet's word the printed walk tells its sink: kind, number and flag. Where a token
-/// stands and how long it is it does not tell.
-pub const TOLD: u64 = 0xf << 60 | 0xffff << 10 | 1 << 9;
+/// What of a token's two words in a sheet the printed walk tells its sink: kind, number and flag of
+/// the first, and the second, which is the name's offset. Where a token stands, how long it is and
+/// whether an open token announces attributes it does not tell.
+pub const TOLD: [u64; 2] = [0xf << 60 | 0xffff << 10 | 1 << 9, !0];
 
 /// Bytes of a record before its payload, and around it.
 const RECORD_HEAD: u64 = 24;
@@ -90,7 +91,7 @@ pub fn open(chunk: &[u8]) -> Call<'_> {
     })
 }
 
-/// The token walk of a stream, a word a token.
+/// The token walk of a stream, two words a token.
 pub fn sheet(stream: &[u8], asked: Asked) -> Call<'_> {
     // The printed walk takes names for inline ones where it is given no chunk; it looks at nothing
     // in it.
@@ -225,7 +226,9 @@ unsafe extern "C" fn sheet_into(
     };
     let mut sheet = Sheet {
         // SAFETY: as the caller says.
-        words: unsafe { from_raw_parts_mut(sheet, sheet_len) },
+        words: unsafe { from_raw_parts_mut(sheet, sheet_len) }
+            .as_chunks_mut()
+            .0,
         count: 0,
     };
     let (start, length) = (start as usize, length as usize);
@@ -235,62 +238,69 @@ unsafe extern "C" fn sheet_into(
     }
 }
 
-/// A sink that writes a word a token.
+/// A sink that writes two words a token.
 struct Sheet<'s> {
-    words: &'s mut [u64],
+    words: &'s mut [[u64; 2]],
     count: usize,
 }
 
 impl Sheet<'_> {
     #[inline(always)]
-    fn put(&mut self, kind: u8, number: u16, flag: bool) -> EvtxResult<()> {
-        let Some(word) = self.words.get_mut(self.count) else {
+    fn put(&mut self, kind: u8, number: u16, flag: bool, name: ChunkOffset) -> EvtxResult<()> {
+        let Some(words) = self.words.get_mut(self.count) else {
             return Err(EvtxError::FailedToCreateRecordModel("no room"));
         };
-        *word = u64::from(kind) << 60 | u64::from(number) << 10 | u64::from(flag) << 9;
+        let first = u64::from(kind) << 60 | u64::from(number) << 10 | u64::from(flag) << 9;
+        *words = [first, u64::from(name) << 32];
         self.count += 1;
         Ok(())
+    }
+
+    #[inline(always)]
+    fn nameless(&mut self, kind: u8, number: u16, flag: bool) -> EvtxResult<()> {
+        self.put(kind, number, flag, 0)
     }
 }
 
 impl<'a> TokenSink<'a> for Sheet<'_> {
     fn template_instance(&mut self, _: BinXmlTemplateValues<'a>) -> EvtxResult<()> {
-        self.put(kinds::INSTANCE, 0, false)
+        self.nameless(kinds::INSTANCE, 0, false)
     }
-    fn open_start(&mut self, _: ChunkOffset, dependency: Option<u16>) -> EvtxResult<()> {
-        self.put(kinds::OPEN, dependency.unwrap_or(0), dependency.is_some())
+    fn open_start(&mut self, name: ChunkOffset, dependency: Option<u16>) -> EvtxResult<()> {
+        let (number, flag) = (dependency.unwrap_or(0), dependency.is_some());
+        self.put(kinds::OPEN, number, flag, name)
     }
     fn close_start(&mut self) -> EvtxResult<()> {
-        self.put(kinds::CLOSE_START, 0, false)
+        self.nameless(kinds::CLOSE_START, 0, false)
     }
     fn close_empty(&mut self) -> EvtxResult<()> {
-        self.put(kinds::CLOSE_EMPTY, 0, false)
+        self.nameless(kinds::CLOSE_EMPTY, 0, false)
     }
     fn close_element(&mut self) -> EvtxResult<()> {
-        self.put(kinds::CLOSE_ELEMENT, 0, false)
+        self.nameless(kinds::CLOSE_ELEMENT, 0, false)
     }
     fn value(&mut self, _: BinXmlValue<'a>) -> EvtxResult<()> {
-        self.put(kinds::VALUE, 0, false)
+        self.nameless(kinds::VALUE, 0, false)
     }
-    fn attribute(&mut self, _: ChunkOffset) -> EvtxResult<()> {
-        self.put(kinds::ATTRIBUTE, 0, false)
+    fn attribute(&mut self, name: ChunkOffset) -> EvtxResult<()> {
+        self.put(kinds::ATTRIBUTE, 0, false, name)
     }
-    fn entity_ref(&mut self, _: ChunkOffset) -> EvtxResult<()> {
-        self.put(kinds::ENTITY_REF, 0, false)
+    fn entity_ref(&mut self, name: ChunkOffset) -> EvtxResult<()> {
+        self.put(kinds::ENTITY_REF, 0, false, name)
     }
-    fn pi_target(&mut self, _: ChunkOffset) -> EvtxResult<()> {
-        self.put(kinds::PI_TARGET, 0, false)
+    fn pi_target(&mut self, name: ChunkOffset) -> EvtxResult<()> {
+        self.put(kinds::PI_TARGET, 0, false, name)
     }
     fn pi_data(&mut self, _: Utf16LeSlice<'a>) -> EvtxResult<()> {
-        self.put(kinds::PI_DATA, 0, false)
+        self.nameless(kinds::PI_DATA, 0, false)
     }
     fn cdata(&mut self, _: Utf16LeSlice<'a>) -> EvtxResult<()> {
-        self.put(kinds::CDATA, 0, false)
+        self.nameless(kinds::CDATA, 0, false)
     }
     fn char_ref(&mut self, ch: u16) -> EvtxResult<()> {
-        self.put(kinds::CHAR_REF, ch, false)
+        self.nameless(kinds::CHAR_REF, ch, false)
     }
     fn substitution(&mut self, id: u16, optional: bool) -> EvtxResult<()> {
-        self.put(kinds::SUBSTITUTION, id, optional)
+        self.nameless(kinds::SUBSTITUTION, id, optional)
     }
 }

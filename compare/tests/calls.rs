@@ -1,4 +1,5 @@
-//! Modes O and C through the oracle: document 01's samples, the order of refusals, the packed words, and the lent words.
+//! Modes O and C through the oracle: document 01's samples, with the sheet's words as document 02's request P2 has them, the order of
+//! refusals, the packed words, and the lent words.
 
 mod common;
 
@@ -77,7 +78,7 @@ fn order_of_refusals() {
     assert_eq!(owners("04 00 10"), "refused 13 0\n");
     assert_eq!(call(4, 0, "04 10"), "answer 8900000000000002\nwords\n");
     assert_eq!(call(4, 0, "04"), "answer 8d00000000000000\nwords\n");
-    assert_eq!(call(0, 0, "04"), "answer 9000000000000001\nwords\n");
+    assert_eq!(call(0, 0, "04"), "answer 9000000000000002\nwords\n");
     let data = [&9_u32.to_le_bytes()[..], &long].concat();
     let long = answers(&case(b'C', 0, u32::MAX, 0, &data));
     assert!(long.starts_with("answer 8100000000000000\nwords ffffffffffffffff "));
@@ -100,33 +101,84 @@ fn levels() {
 
 #[test]
 fn sheets() {
-    let words = "2000000024000000 4000480004000000";
+    let words = "2000000024000000 0000020000000000 4000480004000000 0000000000000000";
     let enough = format!("answer 0000000000000002\nwords {words}\n");
-    assert_eq!(call(0, 2, ELEMENT), enough);
+    assert_eq!(call(0, 4, ELEMENT), enough);
     let more = format!("answer 0000000000000002\nwords {words} ffffffffffffffff\n");
-    assert_eq!(call(0, 3, ELEMENT), more);
-    let fewer = "answer 9000000000000002\nwords ffffffffffffffff\n";
-    assert_eq!(call(0, 1, ELEMENT), fewer);
+    assert_eq!(call(0, 5, ELEMENT), more);
+    // 16 counts two words a token, and is answered for every room below that.
+    for room in 0..4 {
+        let ones = " ffffffffffffffff".repeat(room);
+        let fewer = format!("answer 9000000000000004\nwords{ones}\n");
+        assert_eq!(call(0, room as u32, ELEMENT), fewer);
+    }
     // With a dependency: 11 bytes, none, 0 and 7.
-    let element = |dependency| call(1, 2, &format!("01 {dependency} 00000000 00020000 03 00"));
+    let element = |dependency| call(1, 4, &format!("01 {dependency} 00000000 00020000 03 00"));
     for (dependency, word) in [
         ("FFFF", "200000002c000000"),
         ("0000", "200000002c000200"),
         ("0700", "200000002c001e00"),
     ] {
-        let sheet = format!("answer 0000000000000002\nwords {word} 4000580004000000\n");
+        let words = format!("{word} 0000020000000000 4000580004000000 0000000000000000");
+        let sheet = format!("answer 0000000000000002\nwords {words}\n");
         assert_eq!(element(dependency), sheet);
     }
-    // A char ref, both substitutions, and a value that runs over: no grammar.
-    let sheet = call(0, 4, "08 FFFF 0D 0100 01 0E 0080 95 05 01 0200 4100 4200");
+}
+
+/// The sheet of a stream, in words.
+fn sheet(flags: u8, text: &str, words: &[u64]) {
+    let count = words.len() / 2;
+    let lines: String = words.iter().map(|word| format!(" {word:016x}")).collect();
+    let answer = format!("answer {count:016x}\nwords{lines}\n");
+    assert_eq!(call(flags, words.len() as u32, text), answer);
+}
+
+#[test]
+fn every_field_of_a_sheet() {
+    // A char ref, both substitutions, and a value that runs over: no grammar, and no name.
+    let text = "08 FFFF 0D 0100 01 0E 0080 95 05 01 0200 4100 4200";
     let words = [
         0xc << 60 | 3 << 26 | 0xffff << 10,
+        0,
         0xd << 60 | 3 << 43 | 4 << 26 | 1 << 10,
+        0,
         0xd << 60 | 7 << 43 | 4 << 26 | 0x8000 << 10 | 1 << 9,
+        0,
         6_u64 << 60 | 11 << 43 | 8 << 26,
+        0,
     ];
-    let words: String = words.iter().map(|word| format!(" {word:016x}")).collect();
-    assert_eq!(sheet, format!("answer 0000000000000004\nwords{words}\n"));
+    sheet(0, text, &words);
+    // Announced is the bit below the flag, and stands beside number and flag.
+    let open = 2 << 60;
+    let text = "41 00000000 01000000 00000000";
+    sheet(0, text, &[open | 13 << 26 | 1 << 8, 1 << 32]);
+    let text = "41 FEFF 00000000 FFFFFFFF 00000000";
+    let first = open | 15 << 26 | 0xfffe << 10 | 1 << 9 | 1 << 8;
+    sheet(1, text, &[first, 0xffff_ffff << 32]);
+    // A 01 whose attribute follows is not announced. The other names: attribute, entity ref and PI target.
+    let text = "01 00000000 00000000 46 02000000 49 00000080 0A FFFF0000";
+    let words = [
+        open | 9 << 26,
+        0,
+        7 << 60 | 9 << 43 | 5 << 26,
+        2 << 32,
+        8 << 60 | 14 << 43 | 5 << 26,
+        0x8000_0000 << 32,
+        9 << 60 | 19 << 43 | 5 << 26,
+        0xffff << 32,
+    ];
+    sheet(0, text, &words);
+    // An inline name stands where it starts.
+    let text = "41 00000000 4110 0200 4100 4200 0000 00000000 06 0000 0000 0000";
+    let words = [
+        open | 19 << 26 | 1 << 8,
+        5 << 32,
+        7 << 60 | 19 << 43 | 7 << 26,
+        20 << 32,
+    ];
+    sheet(2, text, &words);
+    let text = "01 0000 00000000 0000 0000 0000";
+    sheet(3, text, &[open | 13 << 26 | 1 << 9, 7 << 32]);
 }
 
 #[test]
@@ -142,18 +194,23 @@ fn owner_calls() {
     assert_eq!(call(4, 2, "03"), refused);
 }
 
-/// The longest stream: more words than 65,536 are never lent, and so many are the most that are needed.
+/// More words than 65,536 are never lent: they hold the sheet of 32,768 tokens, and the longest stream has twice as many.
 #[test]
 fn most_words() {
-    let text = "03".repeat(65536);
+    let text = "03".repeat(32768);
     for room in [65536, 65537, u32::MAX] {
         let sheet = call(0, room, &text);
-        assert!(sheet.starts_with("answer 0000000000010000\nwords 4000000004000000 "));
-        assert!(sheet.ends_with(" 47fff80004000000\n"));
+        assert!(sheet.starts_with("answer 0000000000008000\nwords 4000000004000000 0000"));
+        assert!(sheet.ends_with(" 43fff80004000000 0000000000000000\n"));
         assert_eq!(sheet.split_ascii_whitespace().count(), 3 + 65536);
     }
     let fewer = call(0, 65535, &text);
     assert!(fewer.starts_with("answer 9000000000010000\nwords ffffffffffffffff "));
+    let more = call(0, u32::MAX, &"03".repeat(32769));
+    assert!(more.starts_with("answer 9000000000010002\nwords ffffffffffffffff "));
+    let text = "03".repeat(65536);
+    let most = call(0, u32::MAX, &text);
+    assert!(most.starts_with("answer 9000000000020000\nwords ffffffffffffffff "));
     assert_eq!(owners(&text), "refused 13 0\n");
 }
 

@@ -3,6 +3,7 @@
 
 use compare::cases;
 use compare::oracle::batch;
+use compare::oracle::kinds::{ATTRIBUTE, ENTITY_REF, OPEN, PI_TARGET};
 use std::collections::BTreeSet;
 
 /// The answers to the first `count` cases of a kind.
@@ -40,12 +41,95 @@ fn reaches_all(answers: &str) {
     }
 }
 
+/// What is told of a token with a name: its kind, whether it announces attributes, and whether the name stands at 0, in a stream or
+/// past the end of any.
+type Told = (u8, bool, Where);
+
+#[derive(Debug, PartialEq, Eq, PartialOrd, Ord)]
+enum Where {
+    AtZero,
+    InStream,
+    PastEnd,
+}
+
+fn told(kind: u8, announced: bool, name: u32) -> Told {
+    let stands = match name {
+        0 => Where::AtZero,
+        1..=65535 => Where::InStream,
+        _ => Where::PastEnd,
+    };
+    (kind, announced, stands)
+}
+
+/// The tokens with a name that mode T lists.
+fn told_by_lines(answers: &str) -> BTreeSet<Told> {
+    let of_line = |line: &str| {
+        let words: Vec<&str> = line.split(' ').collect();
+        let (kind, announced, name) = match words[..] {
+            [_, _, "2", name, _, announced] => (OPEN, announced == "1", name),
+            [_, _, kind @ ("7" | "8" | "9"), name] => (kind.parse().ok()?, false, name),
+            _ => return None,
+        };
+        Some(told(kind, announced, name.parse().ok()?))
+    };
+    answers.lines().filter_map(of_line).collect()
+}
+
+/// Those that the sheets of mode C hold.
+fn told_by_sheets(answers: &str) -> BTreeSet<Told> {
+    let mut all = BTreeSet::new();
+    for line in answers.lines() {
+        let words: Vec<&str> = line.split(' ').collect();
+        if words[0] != "words" || words.get(1).is_none_or(|word| word.len() != 16) {
+            continue;
+        }
+        for pair in words[1..].as_chunks::<2>().0 {
+            let [first, second] = pair.map(|word| u64::from_str_radix(word, 16).expect("a word"));
+            let kind = (first >> 60) as u8;
+            if [OPEN, ATTRIBUTE, ENTITY_REF, PI_TARGET].contains(&kind) {
+                all.insert(told(kind, first >> 8 & 1 == 1, (second >> 32) as u32));
+            }
+        }
+    }
+    all
+}
+
+/// Both open bytes and the three other kinds, each with a name of each sort.
+fn reaches_names(reached: &BTreeSet<Told>) {
+    let named = [
+        (OPEN, false),
+        (OPEN, true),
+        (ATTRIBUTE, false),
+        (ENTITY_REF, false),
+        (PI_TARGET, false),
+    ];
+    let all = named
+        .into_iter()
+        .flat_map(|(kind, announced)| [0, 1, 65536].map(|name| told(kind, announced, name)));
+    assert_eq!(*reached, all.collect());
+}
+
+/// The sheet call's rooms, by whether they are odd and whether it refused 16.
+fn reached_rooms(answers: &str) -> BTreeSet<(bool, bool)> {
+    let lines: Vec<&str> = answers.lines().collect();
+    let pairs = lines.windows(2).filter_map(|pair| {
+        let refused = pair[0].starts_with("answer 90");
+        let accepted = pair[0].starts_with("answer 00");
+        let words: Vec<&str> = pair[1].split(' ').collect();
+        let sheet = words.get(1).is_some_and(|word| word.len() == 16);
+        let odd = words.len() % 2 == 0;
+        (sheet && (refused || accepted)).then_some((odd, refused))
+    });
+    pairs.collect()
+}
+
 #[test]
 fn made_token_cases() {
     const COUNT: usize = 100_000;
     let answers = answers("token", 1, COUNT);
     assert_eq!(answers.lines().filter(|line| *line == ".").count(), COUNT);
     reaches_all(&answers);
+    reaches_names(&told_by_lines(&answers));
 }
 
 /// The numbers of refusals in the answers of mode O, and in those of mode C.
@@ -76,14 +160,17 @@ fn made_body_cases() {
         assert!(words.contains(&number), "no refusal {number} in mode C");
     }
     assert!(words.contains(&16));
+    reaches_names(&told_by_sheets(&answers));
+    assert_eq!(reached_rooms(&answers).len(), 4);
 }
 
 /// So many lists compare/run asks for: all up to four tokens, and with one item for the four of five and six; those up to three also
-/// after a fragment header, and with C calls. The first of them reach each refusal.
+/// after a fragment header and with the names and announced attributes that a sheet shows, and those up to two with C calls. The
+/// first of them reach each refusal.
 #[test]
 fn short_lists() {
     let cases = cases::make("lists", 0, usize::MAX).expect("a kind");
-    assert_eq!(cases.count(), 1_134_755);
+    assert_eq!(cases.count(), 1_137_317);
     let (tables, words) = reached_by_bodies(&answers("lists", 0, 30_000));
     assert_eq!(tables, BTreeSet::from([13, 15]));
     assert_eq!(words, BTreeSet::from([13, 15, 16]));
@@ -124,6 +211,9 @@ fn stored_cases() {
         .map(|case| case.bytes().len())
         .sum();
     assert!(size < 3000 * 1024, "the stored batch has {size} bytes");
+    reaches_names(&told_by_lines(&answers));
+    reaches_names(&told_by_sheets(&answers));
+    assert_eq!(reached_rooms(&answers).len(), 4);
     let (tables, words) = reached_by_bodies(&answers);
     for number in [2, 3, 7, 8, 9, 10, 11, 12, 13, 14, 15] {
         assert!(tables.contains(&number), "no refusal {number} in mode O");

@@ -30,16 +30,36 @@ fn unknown_token() {
 
 #[test]
 fn element_and_its_dependency() {
-    let plain = "0 9 2 512 -\n9 1 4\nok 2\n.\n";
+    let plain = "0 9 2 512 - 0\n9 1 4\nok 2\n.\n";
     assert_eq!(walk("01 00000000 00020000 03 00"), plain);
     let with_dependency = |text: &str| {
         let data = hex(text);
         answers(&case(b'T', 1, 0, data.len() as u32, &data))
     };
-    let none = "0 11 2 512 -\n11 1 4\nok 2\n.\n";
-    let zero = "0 11 2 512 0\n11 1 4\nok 2\n.\n";
+    let none = "0 11 2 512 - 0\n11 1 4\nok 2\n.\n";
+    let zero = "0 11 2 512 0 0\n11 1 4\nok 2\n.\n";
     assert_eq!(with_dependency("01 FFFF 00000000 00020000 03 00"), none);
     assert_eq!(with_dependency("01 0000 00000000 00020000 03 00"), zero);
+}
+
+/// Document 02, P2: "if an open byte was 41 or 01, and where its name stands".
+#[test]
+fn announced_and_name() {
+    let announced = "0 13 2 512 - 1\n13 1 4\nok 2\n.\n";
+    assert_eq!(walk("41 00000000 00020000 00000000 03 00"), announced);
+    // The byte decides, whatever follows.
+    let attribute = "0 9 2 0 - 0\n9 5 7 4294967295\n14 1 4\nok 3\n.\n";
+    assert_eq!(walk("01 00000000 00000000 06 FFFFFFFF 03"), attribute);
+    // A name in place: its offset is where it stands.
+    let in_place = "0 23 2 9 - 1\n23 1 4\nok 2\n.\n";
+    let text = "41 00000000 09000000 00000000 0000 0000 0000 00000000 03";
+    assert_eq!(walk(text), in_place);
+    // An inline name's is its start, counted from the stream's byte 0.
+    let inline = hex("AA 41 0000 00000000 0000 0000 0000 00000000 0A 0000 0000 0000");
+    let lines = "1 17 2 8 0 1\n18 7 9 19\nok 2\n.\n";
+    assert_eq!(answers(&case(b'T', 3, 1, 24, &inline)), lines);
+    // Cut in the length that only 41 has.
+    assert_eq!(walk("41 00000000 00020000 000000"), "refused 3 9\n.\n");
 }
 
 #[test]

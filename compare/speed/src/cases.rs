@@ -5,8 +5,8 @@ use crate::port;
 use compare::oracle::owners::{self, MOST_LEVELS};
 use compare::timed::{self, Call, TOLD};
 
-/// Words that are enough for every answer on a chunk or a stream.
-pub const ROOM: usize = 65536;
+/// Words that are enough for every answer on a chunk or a stream: two for each of 65,536 tokens.
+pub const ROOM: usize = 2 * 65536;
 /// Words for each begun 65,536 bytes of a file: as many rows as a chunk has at most, of six words.
 const FILE_ROOM: usize = 4645 * 6;
 
@@ -124,9 +124,14 @@ impl Case {
                 port.0, rust.0
             ));
         }
-        let told = if self.kind == Kind::Sheet { TOLD } else { !0 };
-        let differs = |(port, rust): (&u64, &u64)| port & told != *rust;
-        if let Some(at) = port.1.iter().zip(&rust.1).position(differs) {
+        let told = if self.kind == Kind::Sheet {
+            TOLD
+        } else {
+            [!0; 2]
+        };
+        let differs = |((port, rust), told): ((&u64, &u64), &u64)| port & told != *rust;
+        let mut pairs = port.1.iter().zip(&rust.1).zip(told.iter().cycle());
+        if let Some(at) = pairs.position(differs) {
             return Err(format!("the port's word {at} is not the Rust's"));
         }
         Ok((port.0, checksum(&port.1)))
@@ -136,8 +141,8 @@ impl Case {
 /// The answer and the words of the owner table of the tokens in a sheet, by the grammar that the
 /// comparison holds the port to.
 fn table(count: u64, sheet: &[u64]) -> (u64, Vec<u64>) {
-    let kinds = sheet[..count as usize].iter().map(|word| word >> 60);
-    let kinds: Vec<u8> = kinds.map(|kind| kind as u8).collect();
+    let tokens = sheet.chunks(2).take(count as usize);
+    let kinds: Vec<u8> = tokens.map(|words| (words[0] >> 60) as u8).collect();
     let mut words = vec![0; ROOM];
     match owners::owners(&kinds, MOST_LEVELS) {
         Ok(table) => {

@@ -25,6 +25,12 @@ pub fn of_one_body(random: &mut Random) -> Vec<Case> {
     }
 }
 
+/// How many words a C call needs for so many tokens: the sheet has two a token, the table one.
+pub fn needed(flags: u8, tokens: usize) -> u32 {
+    let words = if flags & OWNERS == 0 { 2 } else { 1 };
+    (words * tokens) as u32
+}
+
 /// A case of mode C: so many words are lent.
 pub fn call(flags: u8, room: u32, start: u32, length: u32, stream: &[u8]) -> Case {
     let data = [&room.to_le_bytes(), stream].concat();
@@ -87,23 +93,27 @@ fn deep(random: &mut Random) -> Vec<Case> {
     cases
 }
 
-/// As many tokens as a stream can hold, or a body can.
+/// As many tokens as a stream can hold, about as many as the words that a case lends hold the sheet of, or as many as a body
+/// can have.
 fn wide(random: &mut Random) -> Vec<Case> {
     let one_byte = [CLOSE_START, CLOSE_EMPTY, CLOSE_ELEMENT];
+    let flags = random.one_of(&[0, OWNERS]);
     let (list, room) = match random.below(3) {
         0 => {
-            let list = (0..SIZE).map(|_| random.one_of(&one_byte)).collect();
+            let half = SIZE / 2;
+            let tokens = random.one_of(&[half - 1, half, half, half + 1, SIZE]);
+            let list = (0..tokens).map(|_| random.one_of(&one_byte)).collect();
             (list, random.one_of(&[65535, 65536, 65537, u32::MAX]))
         }
         1 => {
             let list = wide_body(&[VALUE]);
-            let need = list.len() as u32;
+            let need = needed(flags, list.len());
             (list, random.one_of(&[0, need - 1, need, need + 1]))
         }
         _ => {
             let item = random.one_of(&ITEMS);
             let list = wide_body(&[OPEN, CLOSE_EMPTY, item]);
-            let need = list.len() as u32;
+            let need = needed(flags, list.len());
             (list, random.one_of(&[need - 1, need]))
         }
     };
@@ -115,7 +125,7 @@ fn wide(random: &mut Random) -> Vec<Case> {
     let shorter = broken.len().min(SIZE);
     vec![
         case(b'O', 0, 0, size, &stream),
-        call(random.one_of(&[0, OWNERS]), room, 0, size, &stream),
+        call(flags, room, 0, size, &stream),
         case(b'O', 0, 0, size, &broken[..shorter]),
     ]
 }
@@ -132,30 +142,30 @@ pub fn wide_body(content: &[u8]) -> Vec<u8> {
 fn long(random: &mut Random) -> Vec<Case> {
     let size = random.one_of(&[65535, 65536, 65536, 65537]);
     let stream = streams::long(random, size);
-    let need = random.below(40);
-    all_modes(random, &stream, need)
+    let tokens = random.below(40);
+    all_modes(random, &stream, tokens)
 }
 
 /// A stream's owner table, both C calls, and both in a window.
-fn all_modes(random: &mut Random, stream: &Stream, need: usize) -> Vec<Case> {
+fn all_modes(random: &mut Random, stream: &Stream, tokens: usize) -> Vec<Case> {
     let meant = flags(stream);
     let mut cases = vec![owner_table(stream, meant)];
     for call in [0, OWNERS] {
-        cases.push(whole_call(random, stream, meant | call, need));
+        cases.push(whole_call(random, stream, meant | call, tokens));
     }
     let (start, length) = window(random, stream);
     cases.push(case(b'O', meant, start, length, &stream.bytes));
-    let room = room(random, need);
     let flags = meant | random.one_of(&[0, OWNERS]);
+    let room = room(random, flags, tokens);
     cases.push(call(flags, room, start, length, &stream.bytes));
     cases
 }
 
 /// The owner table of a whole stream, or a C call on it.
-fn whole(random: &mut Random, stream: &Stream, flags: u8, need: usize) -> Case {
+fn whole(random: &mut Random, stream: &Stream, flags: u8, tokens: usize) -> Case {
     match random.below(4) {
-        0 => whole_call(random, stream, flags & !OWNERS, need),
-        1 => whole_call(random, stream, flags | OWNERS, need),
+        0 => whole_call(random, stream, flags & !OWNERS, tokens),
+        1 => whole_call(random, stream, flags | OWNERS, tokens),
         _ => owner_table(stream, flags),
     }
 }
@@ -164,27 +174,38 @@ fn owner_table(stream: &Stream, flags: u8) -> Case {
     token_cases::whole(b'O', stream, flags)
 }
 
-fn whole_call(random: &mut Random, stream: &Stream, flags: u8, need: usize) -> Case {
-    let room = room(random, need);
+fn whole_call(random: &mut Random, stream: &Stream, flags: u8, tokens: usize) -> Case {
+    let room = room(random, flags, tokens);
     let Case { start, length, .. } = owner_table(stream, flags);
     call(flags, room, start, length, &stream.bytes)
 }
 
-/// How many words are lent: about as many as are needed; seldom as many as can be.
-fn room(random: &mut Random, need: usize) -> u32 {
-    let need = need as u32;
+/// How many words are lent for so many tokens: about as many as are needed, or as many as there are tokens; seldom as many as
+/// can be.
+fn room(random: &mut Random, flags: u8, tokens: usize) -> u32 {
     if random.once_in(3000) {
         return random.one_of(&[65535, 65536, 65537, u32::MAX]);
     }
+    let need = needed(flags, tokens);
     let any = random.below(need as usize + 9) as u32;
-    random.one_of(&[need, need, need.saturating_sub(1), need + 1, 0, any])
+    random.one_of(&[
+        need,
+        need,
+        need,
+        need.saturating_sub(1),
+        need + 1,
+        tokens as u32,
+        0,
+        any,
+    ])
 }
 
 /// Every short list of tokens, each token as short as can be: all kinds up to four tokens, and for
 /// five and six with one item for the four. The first ones also with fragment headers and as C
-/// calls.
+/// calls, and with names and attributes that the sheet shows.
 pub fn short_lists() -> impl Iterator<Item = Case> {
     let calls = (0..=2).flat_map(|length| lists::every(&ALL, length).flat_map(|list| calls(&list)));
+    let shown = (0..=3).flat_map(|length| lists::every(&ALL, length).map(|list| shown(&list)));
     let fragments =
         (0..=3).flat_map(|length| lists::every(&ALL, length).map(|list| fragments(&list)));
     let all = (0..=4).flat_map(|length| lists::every(&ALL, length));
@@ -192,7 +213,7 @@ pub fn short_lists() -> impl Iterator<Item = Case> {
     let plain = all
         .chain(longer)
         .map(|list| owners(&shortest_of_list(&list)));
-    calls.chain(fragments).chain(plain)
+    calls.chain(shown).chain(fragments).chain(plain)
 }
 
 /// The owner table of a whole stream.
@@ -200,14 +221,31 @@ pub fn owners(stream: &[u8]) -> Case {
     case(b'O', 0, 0, stream.len() as u32, stream)
 }
 
-/// Both C calls, with no words, one too few, as many as are needed, and one more.
+/// Both C calls, with no words, as many as there are tokens, one too few, as many as are needed, and one more.
 pub fn calls(list: &[u8]) -> Vec<Case> {
     let stream = shortest_of_list(list);
-    let need = list.len() as u32;
-    let mut rooms = vec![0, need.saturating_sub(1), need, need + 1];
-    rooms.dedup();
-    let calls = |room| [0, OWNERS].map(|flags| call(flags, room, 0, stream.len() as u32, &stream));
-    rooms.into_iter().flat_map(calls).collect()
+    let mut cases = Vec::new();
+    for flags in [0, OWNERS] {
+        let need = needed(flags, list.len());
+        let few = need.saturating_sub(1);
+        let mut rooms = vec![0, list.len() as u32, few, need, need + 1];
+        rooms.sort_unstable();
+        rooms.dedup();
+        let lent = |room| call(flags, room, 0, stream.len() as u32, &stream);
+        cases.extend(rooms.into_iter().map(lent));
+    }
+    cases
+}
+
+/// The sheet call, with one word more than is needed, where each open token announces attributes and each name has an offset of
+/// its own above the stream's end.
+pub fn shown(list: &[u8]) -> Case {
+    let mut stream = Vec::new();
+    for (&kind, number) in list.iter().zip(0_u32..) {
+        stream.extend(streams::shown(kind, 0xffff_ffff - number));
+    }
+    let room = needed(0, list.len()) + 1;
+    call(0, room, 0, stream.len() as u32, &stream)
 }
 
 /// The owner table where a fragment header stands before and after each token.

@@ -1,6 +1,7 @@
 //! Cases on a log that Windows wrote: each chunk, each record, each stream and each template definition in it.
 
 use super::Case;
+use super::body_cases::{OWNERS, call, needed};
 use super::chunk_cases;
 use super::file_cases::MOST;
 use super::token_cases::case;
@@ -19,7 +20,6 @@ const BODY: u8 = 0x21;
 const DEFINITION_HEAD: usize = 24;
 const DEFINITION_SIZE: usize = 20;
 const DEPENDENCIES: u8 = 1;
-const OWNER_CALL: u8 = 4;
 
 /// How many of each there are. A definition is inner if only instances in values of type 21 name it.
 #[derive(Default)]
@@ -226,12 +226,12 @@ fn asked(start: usize, length: usize, dependencies: bool) -> Asked {
 fn of_stream(chunk: &[u8], walk: Asked) -> [Case; 4] {
     let (start, length) = (walk.start as u32, walk.length as u32);
     let flags = if walk.dependencies { DEPENDENCIES } else { 0 };
-    let room = streams::walk(chunk, walk).tokens.len() as u32 + 1;
-    let lent = [&room.to_le_bytes(), chunk].concat();
+    let tokens = streams::walk(chunk, walk).tokens.len();
+    let lent = |flags| call(flags, needed(flags, tokens) + 1, start, length, chunk);
     [
         case(b'T', flags, start, length, chunk),
         case(b'O', flags, start, length, chunk),
-        case(b'C', flags, start, length, &lent),
-        case(b'C', flags | OWNER_CALL, start, length, &lent),
+        lent(flags),
+        lent(flags | OWNERS),
     ]
 }

@@ -1,11 +1,11 @@
 //! The owner tables and C calls of the stored batch: short lists of tokens, bodies of every token, each refusal of the
 //! grammar, the limit of levels, the sheet's every field, and lent words that are too few, enough or more. Of
-//! streams at the limit of their length there is one; the made cases have more, since each has 64 KiB.
+//! streams at the limit of their length there are two; the made cases have more, since each has 64 KiB.
 
 use super::Case;
-use super::body_cases::{OWNERS, call, calls, fragments, owners};
+use super::body_cases::{OWNERS, call, calls, fragments, needed, owners, shown};
 use super::lists::{every, nested};
-use super::stored_tokens::{DOCUMENT, REFUSED, Sample, WHOLE, hex};
+use super::stored_tokens::{DOCUMENT, NAMES, REFUSED, Sample, WHOLE, hex, moved};
 use super::streams::shortest_of_list;
 use super::token_cases::case;
 use crate::oracle::kinds::{
@@ -93,26 +93,32 @@ pub fn cases() -> Vec<Case> {
     cases.extend(levels());
     cases.extend(rooms());
     cases.extend(windows());
-    // The longest stream, all of tokens of one byte: as many tokens as there can be.
+    // The longest stream, all of tokens of one byte: as many tokens as there can be, and the most words that a sheet needs.
     cases.push(case(b'O', 0, 0, 65536, &[4; 65536]));
+    cases.push(call(0, 1, 0, 65536, &[4; 65536]));
     cases
 }
 
-/// A stream's owner table, and both C calls with as many words.
-fn all_modes(flags: u8, stream: &[u8], room: u32) -> Vec<Case> {
+/// A stream's owner table, and both C calls with words for so many tokens.
+fn all_modes(flags: u8, stream: &[u8], tokens: usize) -> Vec<Case> {
     let size = stream.len() as u32;
+    let lent = |flags| call(flags, needed(flags, tokens), 0, size, stream);
     vec![
         case(b'O', flags, 0, size, stream),
-        call(flags, room, 0, size, stream),
-        call(flags | OWNERS, room, 0, size, stream),
+        lent(flags),
+        lent(flags | OWNERS),
     ]
 }
 
 /// Document 01's samples, and streams of every token and every refusal of the walk.
 fn samples() -> Vec<Case> {
     let mut cases = Vec::new();
-    for (flags, text) in [DOCUMENT, SHEETS, WHOLE].concat() {
+    for (flags, text) in [DOCUMENT, SHEETS, WHOLE, NAMES].concat() {
         cases.extend(all_modes(flags, &hex(text), 7));
+    }
+    for (flags, text) in NAMES {
+        let (start, length, stream) = moved(text);
+        cases.push(call(*flags, 15, start, length, &stream));
     }
     for (flags, text) in REFUSED {
         cases.extend(all_modes(*flags, &hex(text), 2));
@@ -187,13 +193,14 @@ fn levels() -> Vec<Case> {
     // Level 64 is opened twice.
     let twice = nested(63, &[OPEN, CLOSE_EMPTY, OPEN, CLOSE_EMPTY]);
     cases.push(owners(&shortest_of_list(&twice)));
-    let room = nested(64, &[]).len() as u32;
-    cases.extend(all_modes(0, &shortest_of_list(&nested(64, &[])), room));
-    cases.extend(all_modes(0, &shortest_of_list(&nested(65, &[])), room));
+    let tokens = nested(64, &[]).len();
+    cases.extend(all_modes(0, &shortest_of_list(&nested(64, &[])), tokens));
+    cases.extend(all_modes(0, &shortest_of_list(&nested(65, &[])), tokens));
     cases
 }
 
-/// Words lent: none, one too few, as many as are needed, one more, and more.
+/// Words lent: none, as many as there are tokens, one too few, as many as are needed, one more, and more; and every kind of token with
+/// all that the sheet shows of it.
 fn rooms() -> Vec<Case> {
     let mut cases = Vec::new();
     for list in [
@@ -208,6 +215,8 @@ fn rooms() -> Vec<Case> {
     }
     let list = [OPEN, CLOSE_START, CDATA, CLOSE_ELEMENT];
     cases.extend(all_modes(0xf8, &shortest_of_list(&list), 9));
+    cases.extend(ALL.map(|kind| shown(&[kind])));
+    cases.push(shown(&EVERY_TOKEN));
     cases
 }
 
@@ -222,7 +231,7 @@ fn windows() -> Vec<Case> {
         for length in [0, 1, size.saturating_sub(start), u32::MAX] {
             cases.push(case(b'O', 0, start, length, &stream));
         }
-        cases.push(call(0, 3, start, 14, &stream));
+        cases.push(call(0, 6, start, 14, &stream));
     }
     for length in 0..=size + 1 {
         cases.push(case(b'O', 0, 0, length, &stream));
@@ -230,7 +239,7 @@ fn windows() -> Vec<Case> {
     }
     for start in [65536, 1 << 31, u32::MAX] {
         cases.push(case(b'O', 0, start, u32::MAX, &stream));
-        cases.push(call(0, 2, start, u32::MAX, &stream));
+        cases.push(call(0, 4, start, u32::MAX, &stream));
     }
     cases
 }

@@ -117,10 +117,46 @@ pub const DOCUMENT: &[Sample] = &[
     (0, "0C 01 07000000 00020000 01000000 0300 8600 2A000000"),
 ];
 
+/// Both open bytes, with attributes and without, and all tokens that have a name: at 0, within the stream, in place or next to
+/// it, far off, and inline.
+pub const NAMES: &[Sample] = &[
+    (0, "01 00000000 00000000 03"),
+    (0, "41 00000000 00000000 00000000 03"),
+    (0, "01 00000000 00020000 06 00020000 03"),
+    (
+        0,
+        "41 00000000 00020000 00000000 46 FFFFFFFF 05 00 06 00000080 03",
+    ),
+    (1, "41 FFFF 11223344 FFFFFFFF 55667788 03"),
+    (1, "41 0000 11223344 FFFF0000 55667788 02 04"),
+    (1, "01 FEFF 11223344 00000100 03"),
+    (
+        0,
+        "06 00000000 46 01000000 09 00000000 49 FFFFFFFF 0A 00000000 0A FEFFFF7F",
+    ),
+    (0, "01 00000000 08000000 03"),
+    (0, "01 00000000 0A000000 03"),
+    (
+        0,
+        "41 00000000 09000000 00000000 0000 0000 0000 AAAAAAAA 06 1C000000 00000000 0000 0000 0000 \
+         49 2B000000 00000000 0000 0000 0000 0A 3A000000 00000000 0000 0000 0000 03",
+    ),
+    (2, "01 00000000 0000 0000 0000 03"),
+    (3, "01 FFFF 00000000 4100 0100 4100 0000 03"),
+    (3, "41 0100 00000000 4100 0100 4100 0000 00000000 03"),
+    (
+        2,
+        "41 00000000 4110 0200 4100 4200 0000 00000000 46 0000 0000 0000 09 4100 0100 4100 0000 02 \
+         0A 0000 0000 0000 0B 0000 04",
+    ),
+];
+
 pub fn cases() -> Vec<Case> {
     let mut cases = samples(DOCUMENT);
     cases.push(case(b'T', 0, 0, 1, &[]));
     cases.push(case(b'T', 0, 1, 0, &[]));
+    cases.extend(samples(NAMES));
+    cases.extend(later(NAMES));
     cases.extend(samples(REFUSED));
     cases.extend(token_bytes());
     cases.extend(cuts());
@@ -149,6 +185,22 @@ fn walk(flags: u8, data: &[u8]) -> Case {
 fn samples(samples: &[Sample]) -> Vec<Case> {
     let walk = |(flags, text): &Sample| walk(*flags, &hex(text));
     samples.iter().map(walk).collect()
+}
+
+/// The walk over streams that have bytes before them: offsets count from the first of these all the same.
+fn later(samples: &[Sample]) -> Vec<Case> {
+    let walk = |(flags, text): &Sample| {
+        let (start, length, stream) = moved(text);
+        case(b'T', *flags, start, length, &stream)
+    };
+    samples.iter().map(walk).collect()
+}
+
+/// A stream with some bytes before it: start, length and all bytes.
+pub fn moved(text: &str) -> (u32, u32, Vec<u8>) {
+    let (before, stream) = ([0xaa; 3], hex(text));
+    let length = stream.len() as u32;
+    (3, length, [&before[..], &stream].concat())
 }
 
 /// Every byte as a token: alone, with bytes after it, and those of a token with all flags.
@@ -298,12 +350,12 @@ fn singles() -> Vec<Case> {
 /// Streams at the limit of their length.
 fn limits() -> Vec<Case> {
     let mut most = vec![0x03; 65536];
-    let end = hex("02 05 01 0200 4100 4200 04");
+    let end = hex("02 05 01 0200 4100 4200 41 00000000 0000 0000 0000 00000000 04");
     let at = most.len() - end.len();
     most[at..].copy_from_slice(&end);
     let more = vec![0; 65537];
     vec![
-        case(b'T', 0, at as u32, end.len() as u32 + 1, &most),
+        case(b'T', 2, at as u32, end.len() as u32 + 1, &most),
         case(b'T', 0, 0, 1, &more),
     ]
 }

@@ -108,6 +108,22 @@ pub fn shortest(kind: u8) -> &'static [u8] {
     }
 }
 
+/// A short token of a kind, in which an open token announces attributes and a name has this offset.
+pub fn shown(kind: u8, name: u32) -> Vec<u8> {
+    let mut token = shortest(kind).to_vec();
+    let at = match kind {
+        kinds::OPEN => {
+            token[0] = 0x41;
+            token.extend([0; 4]);
+            5
+        }
+        kinds::ATTRIBUTE | kinds::ENTITY_REF | kinds::PI_TARGET => 1,
+        _ => return token,
+    };
+    token[at..at + 4].copy_from_slice(&name.to_le_bytes());
+    token
+}
+
 /// The shortest stream that holds tokens of these kinds.
 pub fn shortest_of_list(list: &[u8]) -> Vec<u8> {
     let tokens: Vec<&[u8]> = list.iter().map(|&kind| shortest(kind)).collect();

@@ -3,7 +3,7 @@
 use super::reader::{Read, Reader};
 use super::values::{self, Value};
 use crate::oracle::refusal::Refusal;
-use crate::oracle::tokens::{Asked, Row};
+use crate::oracle::tokens::{Asked, Row, push_open};
 use crate::oracle::{CHUNK_SIZE, hex, kinds};
 use std::fmt::Write;
 
@@ -15,12 +15,18 @@ pub struct Instance {
     pub values: Vec<Value>,
 }
 
+/// An open token. "The token record gains both": "if an open byte was 41 or 01, and where its name stands" (document 02, P2).
+struct Open {
+    name: u32,
+    dependency: Option<u16>,
+    announced: bool,
+}
+
 /// What a token holds.
 enum Held<'a> {
     Nothing,
     Instance(Instance),
-    /// An open token's name and dependency.
-    Open(u32, Option<u16>),
+    Open(Open),
     Name(u32),
     /// A view's bytes.
     Text(&'a [u8]),
@@ -84,7 +90,10 @@ fn read_token<'a>(byte: u8, reader: &mut Reader<'a>, asked: Asked) -> Read<(u8, 
     let inline = asked.inline_names;
     Ok(match byte {
         0x0c => (kinds::INSTANCE, Held::Instance(instance(reader)?)),
-        0x01 | 0x41 => (kinds::OPEN, open(reader, byte == 0x41, asked)?),
+        0x01 | 0x41 => {
+            let open = open(reader, byte == 0x41, asked)?;
+            (kinds::OPEN, Held::Open(open))
+        }
         0x02 => (kinds::CLOSE_START, Held::Nothing),
         0x03 => (kinds::CLOSE_EMPTY, Held::Nothing),
         0x04 => (kinds::CLOSE_ELEMENT, Held::Nothing),
@@ -108,7 +117,7 @@ fn read_token<'a>(byte: u8, reader: &mut Reader<'a>, asked: Asked) -> Read<(u8, 
 }
 
 /// "Open: dependency u16 if carried (0xFFFF means none), u32, name, and u32 for 41."
-fn open<'a>(reader: &mut Reader<'a>, more: bool, asked: Asked) -> Read<Held<'a>> {
+fn open(reader: &mut Reader<'_>, announced: bool, asked: Asked) -> Read<Open> {
     let dependency = if asked.dependencies {
         Some(reader.half()?).filter(|&dependency| dependency != 0xffff)
     } else {
@@ -116,10 +125,14 @@ fn open<'a>(reader: &mut Reader<'a>, more: bool, asked: Asked) -> Read<Held<'a>>
     };
     reader.word()?;
     let name = name(reader, asked.inline_names)?;
-    if more {
+    if announced {
         reader.word()?;
     }
-    Ok(Held::Open(name, dependency))
+    Ok(Open {
+        name,
+        dependency,
+        announced,
+    })
 }
 
 /// A name's offset; an inline one's is its start.
@@ -209,10 +222,18 @@ impl Token<'_> {
     /// What the sheet says of it.
     pub(super) fn row(&self) -> Row {
         let (number, flag) = match self.held {
-            Held::Open(_, dependency) => (dependency.unwrap_or(0), dependency.is_some()),
+            Held::Open(Open { dependency, .. }) => (dependency.unwrap_or(0), dependency.is_some()),
             Held::CharRef(number) => (number, false),
             Held::Substitution(number, optional) => (number, optional),
             _ => (0, false),
+        };
+        // "Tokens without a name have 0 there."
+        let (announced, name) = match self.held {
+            Held::Open(Open {
+                announced, name, ..
+            }) => (announced, name),
+            Held::Name(name) => (false, name),
+            _ => (false, 0),
         };
         Row {
             kind: self.kind,
@@ -220,6 +241,8 @@ impl Token<'_> {
             length: self.next - self.place,
             number,
             flag,
+            announced,
+            name,
         }
     }
 
@@ -229,8 +252,11 @@ impl Token<'_> {
         write!(out, "{place} {} {kind}", self.next - place)?;
         match &self.held {
             Held::Nothing => Ok(()),
-            Held::Open(name, Some(dependency)) => write!(out, " {name} {dependency}"),
-            Held::Open(name, None) => write!(out, " {name} -"),
+            Held::Open(Open {
+                name,
+                dependency,
+                announced,
+            }) => push_open(out, *name, *dependency, *announced),
             Held::Name(name) => write!(out, " {name}"),
             Held::Text(view) => write!(out, " {}", hex(view)),
             Held::CharRef(number) => write!(out, " {number}"),

@@ -1,4 +1,4 @@
-//! Mode C: what the C calls answer and leave in the lent words ('Sheet and C calls').
+//! Mode C: what the C calls answer and leave in the lent words ('Sheet and C calls'; document 02, P2).
 //!
 //! The printed Rust has no such calls. The sheet's words are made from its walk's tokens, the owner
 //! table is mode O's, and document 01's rules for lent words come on top.
@@ -18,25 +18,50 @@ pub struct Call {
 }
 
 impl Row {
-    /// "A u64 a token, most significant first: kind 4 bits, place 17, length 17, number 16, flag 1,
-    /// 9 zeros."
-    fn word(&self) -> u64 {
-        let fields = [
+    /// "The sheet becomes two words a token: the first as before with that bit in the first of the nine spare places, the
+    /// second the name offset in 32 bits, then 32 zeros; tokens without a name have 0 there." As before: "most significant
+    /// first: kind 4 bits, place 17, length 17, number 16, flag 1, 9 zeros".
+    fn words(&self) -> [u64; 2] {
+        let first = [
             (u64::from(self.kind), 4),
             (self.place as u64, 17),
             (self.length as u64, 17),
             (u64::from(self.number), 16),
             (u64::from(self.flag), 1),
-            (0, 9),
+            (u64::from(self.announced), 1),
+            (0, 8),
         ];
-        packed(fields)
+        let second = [(u64::from(self.name), 32), (0, 32)];
+        [packed(first), packed(second)]
+    }
+}
+
+/// What a call answers: the count of tokens and the words that it leaves, or its refusal.
+struct Filled {
+    count: usize,
+    words: Vec<u64>,
+}
+
+impl Filled {
+    fn sheet(rows: &[Row]) -> Self {
+        Filled {
+            count: rows.len(),
+            words: rows.iter().flat_map(Row::words).collect(),
+        }
+    }
+
+    fn table(owners: Vec<u32>) -> Self {
+        Filled {
+            count: owners.len(),
+            words: owners.into_iter().map(u64::from).collect(),
+        }
     }
 }
 
 /// "Answer: refused 1 bit, number 7, 16 zeros, place or count 40."
-fn answer_word(answer: &Result<Vec<u64>, Refusal>) -> u64 {
+fn answer_word(answer: &Result<Filled, Refusal>) -> u64 {
     let (refused, number, last) = match answer {
-        Ok(words) => (0, 0, words.len() as u64),
+        Ok(filled) => (0, 0, filled.count as u64),
         Err(refusal) => (1, refusal.number, refusal.place),
     };
     packed([(refused, 1), (u64::from(number), 7), (0, 16), (last, 40)])
@@ -44,6 +69,8 @@ fn answer_word(answer: &Result<Vec<u64>, Refusal>) -> u64 {
 
 /// Fields with their widths in bits, the most significant first.
 fn packed<const N: usize>(fields: [(u64, u32); N]) -> u64 {
+    let widths: u32 = fields.iter().map(|(_, width)| width).sum();
+    assert_eq!(widths, 64);
     fields.into_iter().fold(0, |word, (field, width)| {
         assert!(field < 1 << width, "{field} has no room in {width} bits");
         word << width | field
@@ -52,19 +79,19 @@ fn packed<const N: usize>(fields: [(u64, u32); N]) -> u64 {
 
 /// Mode C, of a walk's tokens.
 pub(crate) fn push(rows: Result<Vec<Row>, Refusal>, call: Call, out: &mut String) {
-    let words: Result<Vec<u64>, Refusal> = if call.owners {
-        owners::of_rows(rows).map(|table| table.into_iter().map(u64::from).collect())
+    let filled = if call.owners {
+        owners::of_rows(rows).map(Filled::table)
     } else {
-        rows.map(|rows| rows.iter().map(Row::word).collect())
+        rows.map(|rows| Filled::sheet(&rows))
     };
 
     let room = MOST_ROOM.min(call.room as usize);
-    // 16 comes last: "lent sheet or table too short", "words needed".
-    let words = words.and_then(|words| match words.len() {
+    // 16 comes last: "lent sheet or table too short", "words needed"; "refusal 16 for a sheet counts two words a token".
+    let filled = filled.and_then(|filled| match filled.words.len() {
         needed if needed > room => Err(Refusal::new(16, needed as u64)),
-        _ => Ok(words),
+        _ => Ok(filled),
     });
-    writeln!(out, "answer {:016x}", answer_word(&words)).expect("a String takes all");
+    writeln!(out, "answer {:016x}", answer_word(&filled)).expect("a String takes all");
 
     // "A refusal writes nothing"; "words past the token count stay".
     let (digits, ones) = if call.owners {
@@ -72,7 +99,7 @@ pub(crate) fn push(rows: Result<Vec<Row>, Refusal>, call: Call, out: &mut String
     } else {
         (16, u64::MAX)
     };
-    let mut lent = words.unwrap_or_default();
+    let mut lent = filled.map_or(Vec::new(), |filled| filled.words);
     lent.resize(room, ones);
     out.push_str("words");
     for word in lent {

@@ -10,9 +10,17 @@
 //!
 //! A round that hands out nothing is a fragment header, or the end of the walk where it is one
 //! byte long. The rounds are held against the whole walk: same kinds of tokens, same end.
+//!
+//! A name's offset is what the sink is told. Whether an open token announces attributes the sink is
+//! not told; only the printed reader of open tokens is, and it reads four bytes more then. So that
+//! reader is run again after the token byte, with both answers: the walk gave it the one with which
+//! it ends where the round did.
 
 use crate::binxml::BinXmlTemplateValues;
-use crate::binxml::tokens::{Stream, TokenSink, ends_stream, single_instance_offset, walk_tokens};
+use crate::binxml::tokens::{
+    Stream, TokenSink, ends_stream, read_open_start_element_cursor, single_instance_offset,
+    walk_tokens,
+};
 use crate::binxml::value_variant::BinXmlValue;
 use crate::err::Result as EvtxResult;
 use crate::evtx_chunk::raw_walk;
@@ -20,7 +28,7 @@ use crate::oracle::differences::{Met, of_token};
 use crate::oracle::refusal::Refusal;
 use crate::oracle::values::Fields;
 use crate::oracle::{CHUNK_SIZE, hex, kinds, values};
-use crate::utils::Utf16LeSlice;
+use crate::utils::{ByteCursor, Utf16LeSlice};
 use crate::{Bump, ChunkOffset, EvtxChunk, WINDOWS_1252};
 use std::fmt::Write;
 
@@ -210,6 +218,20 @@ impl<'a> Walker<'a> {
         assert_eq!((places.len(), rounds_end), (tokens.len(), end));
         (places, at)
     }
+
+    /// Whether the walk took the open token at `place`, after which it read on at `next`, for one that
+    /// announces attributes.
+    fn announced(self, data: &[u8], place: usize, next: usize) -> bool {
+        let ends_with = |announced| {
+            let mut cursor = ByteCursor::with_pos(data, place + 1).expect("a token is in the data");
+            let inline = self.chunk.is_none();
+            read_open_start_element_cursor(&mut cursor, announced, self.dependencies, inline)
+                .is_ok_and(|_| cursor.pos() == next)
+        };
+        let announced = ends_with(true);
+        assert_ne!(announced, ends_with(false), "an open token at {place}");
+        announced
+    }
 }
 
 /// What a walk is asked for.
@@ -226,6 +248,8 @@ struct Placed<'a> {
     token: Token<'a>,
     place: usize,
     next: usize,
+    /// It is an open token that announces attributes.
+    announced: bool,
     /// The values, if it is an instance.
     values: Option<Fields>,
 }
@@ -270,10 +294,12 @@ fn walked<R>(data: &[u8], asked: Asked, then: impl FnOnce(Walked<'_>) -> R) -> R
         };
         let exact = values.as_ref().is_none_or(|values| values.exact);
         of_token(data, place, exact, &mut met);
+        let announced = matches!(token, Token::Open(..)) && walker.announced(data, place, next);
         Placed {
             token,
             place,
             next,
+            announced,
             values,
         }
     };
@@ -293,6 +319,10 @@ pub(crate) struct Row {
     pub(crate) number: u16,
     /// Dependency present, or optional.
     pub(crate) flag: bool,
+    /// An open token that announces attributes.
+    pub(crate) announced: bool,
+    /// The name's offset; 0 where there is no name.
+    pub(crate) name: u32,
 }
 
 impl Row {
@@ -303,12 +333,21 @@ impl Row {
             Token::Substitution(number, optional) => (number, optional),
             _ => (0, false),
         };
+        let name = match placed.token {
+            Token::Open(name, _)
+            | Token::Attribute(name)
+            | Token::EntityRef(name)
+            | Token::PiTarget(name) => name,
+            _ => 0,
+        };
         Row {
             kind: placed.token.kind(),
             place: placed.place,
             length: placed.next - placed.place,
             number,
             flag,
+            announced: placed.announced,
+            name,
         }
     }
 }
@@ -342,8 +381,7 @@ fn push_line(data: &[u8], placed: &Placed<'_>, out: &mut String) -> std::fmt::Re
     write!(out, "{place} {} {}", next - place, placed.token.kind())?;
     match &placed.token {
         Token::CloseStart | Token::CloseEmpty | Token::CloseElement => Ok(()),
-        Token::Open(name, Some(dependency)) => write!(out, " {name} {dependency}"),
-        Token::Open(name, None) => write!(out, " {name} -"),
+        Token::Open(name, dependency) => push_open(out, *name, *dependency, placed.announced),
         Token::Attribute(name) | Token::EntityRef(name) | Token::PiTarget(name) => {
             write!(out, " {name}")
         }
@@ -368,6 +406,17 @@ fn push_line(data: &[u8], placed: &Placed<'_>, out: &mut String) -> std::fmt::Re
     }?;
     out.push('\n');
     Ok(())
+}
+
+/// What mode T says of an open token: its name's offset, its dependency or `-`, and whether it announces attributes.
+pub(crate) fn push_open(
+    out: &mut String,
+    name: u32,
+    dependency: Option<u16>,
+    announced: bool,
+) -> std::fmt::Result {
+    let dependency = dependency.map_or("-".to_owned(), |dependency| dependency.to_string());
+    write!(out, " {name} {dependency} {}", u8::from(announced))
 }
 
 /// Mode S.

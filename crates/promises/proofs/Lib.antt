@@ -25,5 +25,7 @@ pub mod Packed
 pub mod PackedFile
 pub mod PackedHeader
 pub mod PackedCalls
+pub mod EachToken
 pub mod Numbered
+pub mod Told
 pub mod Words

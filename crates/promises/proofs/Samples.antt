@@ -29,4 +29,4 @@ a-body w lent r left e f = subst (λ (l : List ℕ). Answered lent l w r) f (sub
 pub all-samples : All samples
 unfolding samples little arrayAt unitsOf beforeZero hashFrom unitsAt among knownCode widthOf sizedAt unsizedAt tableAt valuesAt singleOf gistAt turnAt stepFrom walkFrom walkOf opening step ended outcome wordsFrom
 all-samples =
-    refl and a-body _ _ _ _ refl refl and refl and a-body _ _ _ _ refl refl and refl and refl and refl and a-body _ _ _ _ refl refl and a-body _ _ _ _ refl refl and refl and refl and refl and a-body _ _ _ _ refl refl and refl and refl and refl and refl and a-body _ _ _ _ refl refl and refl and refl and refl and refl and refl and refl and tt {0}
+    refl and a-body _ _ _ _ refl refl and refl and a-body _ _ _ _ refl refl and refl and refl and refl and (refl, refl) and (refl, refl) and a-body _ _ _ _ refl refl and a-body _ _ _ _ refl refl and refl and refl and refl and refl and a-body _ _ _ _ refl refl and refl and refl and refl and refl and a-body _ _ _ _ refl refl and refl and refl and refl and refl and refl and refl and tt {0}

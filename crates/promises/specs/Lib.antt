@@ -5,3 +5,4 @@ pub mod Samples
 pub mod Packed
 pub mod Bodies
 pub mod Words
+pub mod Told

@@ -1,5 +1,5 @@
--- Document 01's sample streams that are to be proved (marked P there), as one list, and one with an inline name. Offset names; start 0 and
--- whole length unless said.
+-- Document 01's sample streams that are to be proved (marked P there), as one list, their sheets restated with two words a token (document
+-- 02, P2); and an open byte 41, an inline name, and lent sheets. Offset names; start 0 and whole length unless said.
 use mathlib.Core.Path.{_≡_}
 use mathlib.Core.Bool.{Bool, true, false}
 use mathlib.Core.List.{List, [], _∷_}
@@ -15,7 +15,7 @@ use Rattle.tokens.specs.Walk.{Walked, ok, bad, walkOf}
 use Rattle.tokens.specs.declared.Held.{Held}
 use Rattle.tokens.specs.declared.Held.the-variants as H
 use Rattle.tokens.specs.declared.Token.{Token}
-use Rattle.sheet.specs.Sheet.{wordsOf}
+use Rattle.sheet.specs.Sheet.{wordsOf, sheetAnswer, sheetWords}
 use Rattle.body.specs.Verdict.{Answered}
 
 -- a stream, and how it is read
@@ -69,6 +69,8 @@ firstValue s (bad k p) = refused k p
 pub data Sample : Type 0 where
   -- read, with its sheet, or refused
   reads : Stream → Given → Sample
+  -- a lent sheet, the answer, and what is left of the sheet
+  sheets : Stream → List ℕ → Result ℕ → List ℕ → Sample
   -- "as a body": the lent table, the answer, and what is left of the table
   bodies : Stream → List ℕ → Result ℕ → List ℕ → Sample
   -- "value at", "walk at"
@@ -80,6 +82,7 @@ pub data Sample : Type 0 where
 
 abbrev pub Holds : Sample → Type 0
 Holds (reads x want) = givenOf (walkOfStream x) ≡ want
+Holds (sheets x lent answer left) = (sheetAnswer (walkOfStream x) lent ≡ answer) × (sheetWords (walkOfStream x) lent ≡ left)
 Holds (bodies x lent answer left) = Answered lent left (walkOfStream x) answer
 Holds (values x at next) = firstValue (x .bytes) (walkOfStream x) ≡ given at next
 Holds (hashes s h) = hashOf (unitsOf s) ≡ h
@@ -92,6 +95,10 @@ All (x ∷ l) = Holds x × All l
 -- `01 00000000 00020000 03 00`
 abbrev pub emptyElement : List ℕ
 emptyElement = 0x01 ∷ 0 ∷ 0 ∷ 0 ∷ 0 ∷ 0 ∷ 2 ∷ 0 ∷ 0 ∷ 0x03 ∷ 0 ∷ []
+
+-- the same with an open byte 41, which has a u32 after its name
+abbrev pub announcedElement : List ℕ
+announcedElement = 0x41 ∷ 0 ∷ 0 ∷ 0 ∷ 0 ∷ 0 ∷ 2 ∷ 0 ∷ 0 ∷ 0 ∷ 0 ∷ 0 ∷ 0 ∷ 0x03 ∷ 0 ∷ []
 
 -- `05 01 0200 4100 4200`
 abbrev pub loneValue : List ℕ
@@ -114,26 +121,31 @@ samples =
     reads (record { bytes = []; start = 1; len = 0; dependencies = false; inline = false }) (stopped 2 1) ∷
     -- "`10`: 9 at 1"
     reads (whole (0x10 ∷ [])) (stopped 9 1) ∷
-    -- "sheet 2000000024000000, 4000480004000000; owners 0, 1": and a word past them stays; with one word lent, 16 with two needed
-    reads (whole emptyElement) (words (0x2000000024000000 ∷ 0x4000480004000000 ∷ [])) ∷
+    -- "sheet 2000000024000000, 4000480004000000; owners 0, 1": the name stands at 0x200, and the second token has none; a word past them
+    -- stays; with one word lent for owners, 16 with two needed, and with three for the sheet, 16 with four needed
+    reads (whole emptyElement) (words (0x2000000024000000 ∷ 0x0000020000000000 ∷ 0x4000480004000000 ∷ 0 ∷ [])) ∷
+    sheets (whole emptyElement) (9 ∷ 9 ∷ 9 ∷ 9 ∷ 9 ∷ []) (gives 2) (0x2000000024000000 ∷ 0x0000020000000000 ∷ 0x4000480004000000 ∷ 0 ∷ 9 ∷ []) ∷
+    sheets (whole emptyElement) (9 ∷ 9 ∷ 9 ∷ []) (refuses 16 4) (9 ∷ 9 ∷ 9 ∷ []) ∷
     bodies (whole emptyElement) (9 ∷ 9 ∷ 9 ∷ []) (gives 2) (0 ∷ 1 ∷ 9 ∷ []) ∷
     bodies (whole emptyElement) (9 ∷ []) (refuses 16 2) (9 ∷ []) ∷
+    -- with 41: four bytes more, and the announced bit
+    reads (whole announcedElement) (words (0x2000000034000100 ∷ 0x0000020000000000 ∷ 0x4000680004000000 ∷ 0 ∷ [])) ∷
     -- "With dependency and `FFFF` after 01: flag 0, number 0; with `0000`: flag 1."
-    reads (withDependency (0x01 ∷ 0xFF ∷ 0xFF ∷ 0 ∷ 0 ∷ 0 ∷ 0 ∷ 0 ∷ 2 ∷ 0 ∷ 0 ∷ 0x03 ∷ 0 ∷ [])) (words (0x200000002C000000 ∷ 0x4000580004000000 ∷ [])) ∷
-    reads (withDependency (0x01 ∷ 0 ∷ 0 ∷ 0 ∷ 0 ∷ 0 ∷ 0 ∷ 0 ∷ 2 ∷ 0 ∷ 0 ∷ 0x03 ∷ 0 ∷ [])) (words (0x200000002C000200 ∷ 0x4000580004000000 ∷ [])) ∷
+    reads (withDependency (0x01 ∷ 0xFF ∷ 0xFF ∷ 0 ∷ 0 ∷ 0 ∷ 0 ∷ 0 ∷ 2 ∷ 0 ∷ 0 ∷ 0x03 ∷ 0 ∷ [])) (words (0x200000002C000000 ∷ 0x0000020000000000 ∷ 0x4000580004000000 ∷ 0 ∷ [])) ∷
+    reads (withDependency (0x01 ∷ 0 ∷ 0 ∷ 0 ∷ 0 ∷ 0 ∷ 0 ∷ 0 ∷ 2 ∷ 0 ∷ 0 ∷ 0x03 ∷ 0 ∷ [])) (words (0x200000002C000200 ∷ 0x0000020000000000 ∷ 0x4000580004000000 ∷ 0 ∷ [])) ∷
     -- "read; as a body 13 at 0"
-    reads (whole loneValue) (words (0x6000000020000000 ∷ [])) ∷
+    reads (whole loneValue) (words (0x6000000020000000 ∷ 0 ∷ [])) ∷
     bodies (whole loneValue) (9 ∷ []) (refuses 13 0) (9 ∷ []) ∷
     -- "inline `41 00` `42 00`: hash 1041"
     hashes (0x41 ∷ 0 ∷ 0x42 ∷ 0 ∷ []) 0x1041 ∷
-    -- and the attribute that has this name: `06 4110 0200 4100 4200 0000`, read with names inline
-    reads (withInline (0x06 ∷ 0x41 ∷ 0x10 ∷ 2 ∷ 0 ∷ 0x41 ∷ 0 ∷ 0x42 ∷ 0 ∷ 0 ∷ 0 ∷ [])) (words (0x700000002C000000 ∷ [])) ∷
+    -- and the attribute that has this name: `06 4110 0200 4100 4200 0000`, read with names inline; it starts at 1
+    reads (withInline (0x06 ∷ 0x41 ∷ 0x10 ∷ 2 ∷ 0 ∷ 0x41 ∷ 0 ∷ 0x42 ∷ 0 ∷ 0 ∷ 0 ∷ [])) (words (0x700000002C000000 ∷ 0x0000000100000000 ∷ [])) ∷
     -- "value at 18, walk at 22"; as a body it has no owner
-    reads (whole (anInstance 2 0x08 (0x2A ∷ 0 ∷ 0 ∷ 0 ∷ []))) (words (0x1000000058000000 ∷ [])) ∷
+    reads (whole (anInstance 2 0x08 (0x2A ∷ 0 ∷ 0 ∷ 0 ∷ []))) (words (0x1000000058000000 ∷ 0 ∷ [])) ∷
     values (whole (anInstance 2 0x08 (0x2A ∷ 0 ∷ 0 ∷ 0 ∷ []))) 18 22 ∷
     bodies (whole (anInstance 2 0x08 (0x2A ∷ 0 ∷ 0 ∷ 0 ∷ []))) (9 ∷ []) (gives 1) (0 ∷ []) ∷
     -- "Size 6: 24 bytes suffice; with 23, 2 at 24."
-    reads (whole (anInstance 6 0x08 (0x2A ∷ 0 ∷ 0 ∷ 0 ∷ 0 ∷ 0 ∷ []))) (words (0x1000000060000000 ∷ [])) ∷
+    reads (whole (anInstance 6 0x08 (0x2A ∷ 0 ∷ 0 ∷ 0 ∷ 0 ∷ 0 ∷ []))) (words (0x1000000060000000 ∷ 0 ∷ [])) ∷
     reads (whole (anInstance 6 0x08 (0x2A ∷ 0 ∷ 0 ∷ 0 ∷ 0 ∷ []))) (stopped 2 24) ∷
     -- "that with size 3, type 86: 10 at 18"
     reads (whole (anInstance 3 0x86 (0x2A ∷ 0 ∷ 0 ∷ 0 ∷ []))) (stopped 10 18) ∷

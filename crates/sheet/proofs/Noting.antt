@@ -6,8 +6,8 @@ use native.Mathlib.Nat.{add-zero, zero-mul, one-mul, mul-one, add-mul}
 use native.Mathlib.Omega.{arith}
 use native.Mathlib.Decide.{decLt}
 use borrow.Author.Tests.{le-ltb}
-use lib.ListN.{length, set}
-use lib.Seq.{sets, length-sets}
+use lib.ListN.{length, set, length-set}
+use lib.Seq.{sets, length-sets, set-out}
 use Rattle.cursor.specs.Answer.{Answer, given, refused}
 use Rattle.tokens.specs.Walk.{Met, handed, header, over, Walked, ok, bad, before, after, turnAt, stepAt, walkFrom, walkAt}
 use Rattle.tokens.specs.declared.Flags.{Flags}
@@ -33,11 +33,22 @@ abbrev pub marks : Numbers
 marks = record { each = kindsOf; one = λ t. markOf t ∷ []; width = 1; none = refl; more = λ t l. refl; wide = λ t. refl }
 
 -- one number set, under another name; and at n, which is n times 1
-pub put-one : (left next : List ℕ) (i a b : ℕ) → next ≡ set left i a → a ≡ b → next ≡ sets left i (b ∷ [])
+put-one : (left next : List ℕ) (i a b : ℕ) → next ≡ set left i a → a ≡ b → next ≡ sets left i (b ∷ [])
 put-one left next i a b h e = h ∙ ap (set left i) e
 
 pub set-one : (left next : List ℕ) (n a b : ℕ) → next ≡ set left n a → a ≡ b → next ≡ sets left (n * 1) (b ∷ [])
 set-one left next n a b h e = put-one left next n a b h e ∙ ap (λ (i : ℕ). set left i b) (sym (mul-one n))
+
+-- two numbers set, one behind the other; and the first alone, where there is no room behind it
+pub put-two : (left next : List ℕ) (i a b x y : ℕ) → next ≡ set (set left i a) (i + 1) b → a ≡ x → b ≡ y → next ≡ sets left i (x ∷ y ∷ [])
+put-two left next i a b x y h e g =
+    let m : i + 1 ≡ suc i = omega arith in
+    h ∙ ap (λ (k : ℕ). set (set left i a) k b) m ∙ ap (λ (n : ℕ). set (set left i n) (suc i) b) e ∙ ap (set (set left i x) (suc i)) g
+
+pub put-first : (left next : List ℕ) (i a x y : ℕ) → length left ≤ i + 1 → next ≡ set left i a → a ≡ x → next ≡ sets left i (x ∷ y ∷ [])
+put-first left next i a x y short h e =
+    let k : length (set left i x) ≤ suc i = omega (arith, length-set left i x) in
+    h ∙ ap (set left i) e ∙ sym (set-out (set left i x) (suc i) y k)
 
 -- more numbers set behind those that are set
 sets-more : (a b l : List ℕ) (i : ℕ) → sets (sets l i a) (i + length a) b ≡ sets l i (a ++ b)

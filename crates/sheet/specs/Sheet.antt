@@ -1,7 +1,7 @@
--- The sheet. Document 01, "Sheet and C calls".
+-- The sheet. Document 01, "Sheet and C calls"; document 02, P2.
 use mathlib.Core.Bool.{Bool, true, false}
 use mathlib.Core.List.{List, [], _∷_, _++_, map}
-use Prim.Native.Nat.{ℕ, zero, suc, _+_, _-_, _*_, _%_, _^_}
+use Prim.Native.Nat.{ℕ, zero, suc, _+_, _-_, _*_, _/_, _%_, _^_}
 use lib.Dec.{leb}
 use lib.ListN.{length}
 use Rattle.cursor.specs.Answer.{Answer, given, refused, Result, gives, refuses, pick}
@@ -15,24 +15,37 @@ abbrev pub flagBit : Bool → ℕ
 flagBit true = 1
 flagBit false = 0
 
--- "A u64 a token, most significant first: kind 4 bits", "place 17, length 17, number 16", "flag 1", "9 zeros"
+-- Document 01's word, the old sheet's: "A u64 a token, most significant first: kind 4 bits", "place 17, length 17, number 16", "flag 1",
+-- "9 zeros"
 abbrev pub wordOf : Token → ℕ
 wordOf t =
     t .kind % 2 ^ 4 * 2 ^ 60 + t .place % 2 ^ 17 * 2 ^ 43 + t .len % 2 ^ 17 * 2 ^ 26 + t .number * 2 ^ 10 + flagBit (t .flag) * 2 ^ 9
 
+-- Document 02, P2: "two words a token: the first as before with that bit in the first of the nine spare places"
+abbrev pub firstWordOf : Token → ℕ
+firstWordOf t = wordOf t + flagBit (t .announced) * 2 ^ 8
+
+-- "the second the name offset in 32 bits, then 32 zeros"
+abbrev pub secondWordOf : Token → ℕ
+secondWordOf t = t .name % 2 ^ 32 * 2 ^ 32
+
 -- a token's words, and how many they are
 abbrev pub wordsOfToken : Token → List ℕ
-wordsOfToken t = wordOf t ∷ []
+wordsOfToken t = firstWordOf t ∷ secondWordOf t ∷ []
 
 abbrev pub wordsPerToken : ℕ
-wordsPerToken = 1
+wordsPerToken = 2
+
+-- a first word without that bit
+abbrev pub withoutBit : ℕ → ℕ
+withoutBit word = word - word / 2 ^ 8 % 2 * 2 ^ 8
 
 -- the words of tokens, one token's after another's
 abbrev pub wordsOf : List Token → List ℕ
 wordsOf [] = []
 wordsOf (t ∷ l) = wordsOfToken t ++ wordsOf l
 
--- the walk's refusal; then "lent sheet or table too short": 16, "words needed"; else the count of tokens
+-- the walk's refusal; then "lent sheet or table too short": 16, "words needed", which "counts two words a token"; else the count of tokens
 abbrev pub sheetAnswer : Walked → List ℕ → Result ℕ
 sheetAnswer (ok l) lent = pick (leb (length (wordsOf l)) (length lent)) (gives (length l)) (refuses noRoom (length (wordsOf l)))
 sheetAnswer (bad k p) lent = refuses k p

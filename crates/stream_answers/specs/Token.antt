@@ -37,15 +37,19 @@ numberedText t =
     pick (eqb (t .kind) charRefKind) (spacedNumber (t .number))
     (pick (eqb (t .kind) substitutionKind) (spacedNumber (t .number) ++ spacedNumber (flagBit (t .flag))) [])
 
--- '2 open: name-offset, dependency or `-`'; the others have the name alone
+-- 'dependency or `-`'
 abbrev pub dependencyText : Token → List ℕ
-dependencyText t = pick (eqb (t .kind) openKind) (pick (t .flag) (spacedNumber (t .number)) (ascii " -")) []
+dependencyText t = pick (t .flag) (spacedNumber (t .number)) (ascii " -")
+
+-- '2 open: name-offset, dependency or `-`, announced (1 for the byte 41, 0 for 01)'; the others have the name alone
+abbrev pub openedText : Token → List ℕ
+openedText t = pick (eqb (t .kind) openKind) (dependencyText t ++ spacedNumber (flagBit (t .announced))) []
 
 -- by what the token holds: '7 attribute, 8 entity ref, 9 PI target: name-offset', '10 PI data, 11 CDATA: the view's bytes',
 -- '6 value: a field type:-:start:next:content', the next place being where the token ends
 abbrev pub byHeld : List ℕ → Token → Held → List ℕ
 byHeld s t H.Nothing = numberedText t
-byHeld s t (H.Name n) = spacedNumber (n .offset) ++ dependencyText t
+byHeld s t (H.Name n) = spacedNumber (t .name) ++ openedText t
 byHeld s t (H.Text v) = bytesField (partOf s (v .part))
 byHeld s t (H.Value v) = sizelessText s v (t .place + t .len)
 byHeld s t (H.Instance i) = instanceText s i

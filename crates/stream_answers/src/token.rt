@@ -9,7 +9,7 @@ ghost use Prim.Native.Nat.{_+_, _<_, _^_};
 ghost use Rattle.tokens.specs.Walk.{walkAt, countedOf};
 ghost use Rattle.sheet.specs.Sheet.{readAt};
 ghost use Rattle.print.specs.Text.{Puts, spacedNumber};
-ghost use Rattle.stream_answers.specs.Token.{tokenText, heldText, numberedText, dependencyText};
+ghost use Rattle.stream_answers.specs.Token.{tokenText, heldText, numberedText, dependencyText, openedText};
 ghost use Rattle.stream_answers.specs.Walk.{tokensText, lastText};
 
 // The walk from a position on.
@@ -58,7 +58,7 @@ fn held(out: &mut [u8], at: usize, t: Token, s: &[u8]) -> usize
     let h = t.held;
     match h {
         Held::Nothing => numbered(out, at, t),
-        Held::Name(n) => named(out, at, n.offset as u64, t),
+        Held::Name(_) => named(out, at, t),
         Held::Text(v) => {
             let p = v.part;
             field::bytes(out, at, p.of(s))
@@ -83,20 +83,27 @@ fn numbered(out: &mut [u8], at: usize, t: Token) -> usize
     at
 }
 
-fn named(out: &mut [u8], at: usize, offset: u64, t: Token) -> usize
-    ensures { λ r. ⌜ Puts (spacedNumber offset ++ dependencyText t) (now (out .entry)) at (now (out .exit)) r ⌝ }
+fn named(out: &mut [u8], at: usize, t: Token) -> usize
+    ensures { λ r. ⌜ Puts (spacedNumber (t .name) ++ openedText t) (now (out .entry)) at (now (out .exit)) r ⌝ }
 {
-    let after = print::number(out, at, offset);
-    dependent(out, after, t)
+    let after = print::number(out, at, t.name as u64);
+    opened(out, after, t)
 }
 
-// An open token's dependency.
-fn dependent(out: &mut [u8], at: usize, t: Token) -> usize
-    ensures { λ r. ⌜ Puts (dependencyText t) (now (out .entry)) at (now (out .exit)) r ⌝ }
+// Of an open token its dependency, and whether it announces attributes.
+fn opened(out: &mut [u8], at: usize, t: Token) -> usize
+    ensures { λ r. ⌜ Puts (openedText t) (now (out .entry)) at (now (out .exit)) r ⌝ }
 {
     if t.kind != Token::OPEN {
         return at;
     }
+    let after = dependent(out, at, t);
+    print::number(out, after, t.announced as u64)
+}
+
+fn dependent(out: &mut [u8], at: usize, t: Token) -> usize
+    ensures { λ r. ⌜ Puts (dependencyText t) (now (out .entry)) at (now (out .exit)) r ⌝ }
+{
     if t.flag {
         return print::number(out, at, t.number as u64);
     }

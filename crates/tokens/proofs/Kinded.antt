@@ -28,8 +28,8 @@ later : {A : Type 0} (a : Answer A) (f : A → ℕ → Answer Gist) → ((x : A)
 later (given x n) f g = g x n
 later (refused k p) f g = tt {0}
 
-open-kinded : (d : ℕ) (name : Name) (n : ℕ) → Kinded (given (openOf d name) n)
-open-kinded d name n = either (λ (g : Gist). Kinded (given g n)) (eqb d 0xFFFF) _ _ (λ e. (omega arith, omega arith)) (λ e. (omega arith, omega arith))
+open-kinded : (d : ℕ) (announced : Bool) (name : Name) (n : ℕ) → Kinded (given (openOf d announced name) n)
+open-kinded d announced name n = either (λ (g : Gist). Kinded (given g n)) (eqb d 0xFFFF) _ _ (λ e. (omega arith, omega arith)) (λ e. (omega arith, omega arith))
 
 module _ (s : List ℕ) where
   opened : (f : Flags) (announced : Bool) (at : ℕ) → Kinded (openAt s f announced at)
@@ -37,7 +37,7 @@ module _ (s : List ℕ) where
       later (dependencyAt s (f .dependencies) at) _ (λ d n.
       later (numberAt s n 4) _ (λ _ m.
       later (nameAt s m (f .inline)) _ (λ name e.
-      later (listSizeAt s announced e) _ (λ _ z. open-kinded d name z))))
+      later (listSizeAt s announced e) _ (λ _ z. open-kinded d announced name z))))
 
   substitution : (optional : Bool) (at : ℕ) → Kinded (substitutionAt s optional at)
   substitution optional at = later (numberAt s at 2) _ (λ n m. later (typeAt s m) _ (λ _ e. (omega arith, omega arith)))

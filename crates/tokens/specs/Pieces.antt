@@ -1,5 +1,6 @@
 -- What private functions answer: only these cite the definitions here. Each is a piece of a definition of another file, from a read
 -- on, and the proofs show that the pieces make the whole.
+use mathlib.Core.Path.{_≡_}
 use mathlib.Core.Bool.{Bool, true, false, _||_}
 use mathlib.Core.List.{List}
 use Prim.Native.Nat.{ℕ, _+_, _<_}
@@ -11,16 +12,19 @@ use Rattle.cursor.specs.Refusals.{unknownToken}
 use Rattle.cursor.specs.declared.Part.{Part}
 use Rattle.name.specs.Name.{nameAt}
 use Rattle.name.specs.declared.Name.{Name}
-use Rattle.tokens.specs.Token.{instanceKind, closeStartKind, closeEmptyKind, closeElementKind, attributeKind, entityRefKind, piTargetKind, piDataKind, cdataKind, substitutionKind, gist, bareAt, charRefAt, typeAt, substitutionAt, namedAt, openOf, textTokenAt, valueTokenAt}
-use Rattle.tokens.specs.Instance.{definitionAt, tableAt, valuesAt}
+use Rattle.tokens.specs.Token.{instanceKind, openKind, closeStartKind, closeEmptyKind, closeElementKind, piDataKind, cdataKind, substitutionKind, gist, namedGist, bareAt, charRefAt, typeAt, substitutionAt, textTokenAt, valueTokenAt}
+use Rattle.tokens.specs.Instance.{definitionAt, tableAt, valuesAt, instanceAt}
 use Rattle.tokens.specs.Table.{gistAt}
 use Rattle.tokens.specs.Walk.{Met, handed, header, over, tokenOf, headerAt}
 use Rattle.tokens.specs.declared.Flags.{Flags}
 use Rattle.tokens.specs.declared.Held.the-variants as H
 use Rattle.tokens.specs.declared.Instance.{Instance}
+use Rattle.tokens.specs.declared.plain.Front.{Front}
+use Rattle.tokens.specs.declared.plain.Front.the-variants as F
 use Rattle.tokens.specs.declared.plain.Gist.{Gist}
 use Rattle.tokens.specs.declared.plain.GistRead.{GistRead}
 use Rattle.tokens.specs.declared.plain.GistRead.the-variants as G
+use Rattle.tokens.specs.declared.plain.Lead.{Lead}
 use Rattle.tokens.specs.declared.template.InstanceRead.{InstanceRead}
 use Rattle.tokens.specs.declared.template.InstanceRead.the-variants as I
 use Rattle.tokens.specs.declared.walking.Turned.{Turned}
@@ -41,34 +45,65 @@ turnAnswer (T.Header c) = given header (c .at)
 turnAnswer (T.Over c) = given over (c .at)
 turnAnswer (T.Refused r) = refusal r
 
--- the token table from "02 close start" on, from "05/45 value", "09/49 entity ref" and "0D, 0E substitution"
+-- The token table in two parts: the tokens with a name, and the others. What is known of a token before its name
+abbrev pub lead : ℕ → ℕ → Bool → Bool → Lead
+lead kind number flag announced = record { kind = kind; number = number; flag = flag; announced = announced }
+
+-- of an open token: "0xFFFF means none"; 0 is a dependency
+abbrev pub openLead : ℕ → Bool → Lead
+openLead dependency announced =
+    pick (eqb dependency 0xFFFF) (lead openKind 0 false announced) (lead openKind dependency true announced)
+
+-- a token with a name, by what is known before it; from its name on, and after it
+abbrev pub namedOf : Lead → Name → Gist
+namedOf l name = namedGist (l .kind) (l .number) (l .flag) (l .announced) name
+
+abbrev pub listSizeAt : List ℕ → Bool → ℕ → Answer ℕ
+listSizeAt s announced at = pick announced (numberAt s at 4) (given 0 at)
+
+abbrev pub namedAfterName : List ℕ → Lead → Name → ℕ → Answer Gist
+namedAfterName s l name at =
+    listSizeAt s (l .announced) at then λ _ at.
+    given (namedOf l name) at
+
+abbrev pub namedAfterLead : List ℕ → Bool → Lead → ℕ → Answer Gist
+namedAfterLead s inline l at =
+    nameAt s at inline then λ name at.
+    namedAfterName s l name at
+
+-- what a front leads to, if a token without a name is what is said
+abbrev pub frontTo : List ℕ → Bool → Answer Gist → Front → Answer Gist
+frontTo s inline nameless (F.Named l c) = namedAfterLead s inline l (c .at)
+frontTo s inline nameless F.Nameless = nameless
+frontTo s inline nameless (F.Refused r) = refusal r
+
+abbrev pub LeadsTo : List ℕ → Bool → Front → Answer Gist → Type 0
+LeadsTo s inline front a = (nameless : Answer Gist) → frontTo s inline nameless front ≡ a
+
+-- the token table without the tokens with a name; from "02 close start", "05/45 value" and "0D, 0E substitution" on
 unfoldable pub tableFrom0D : List ℕ → ℕ → ℕ → Answer Gist
 tableFrom0D s b at =
     pick (eqb b 0x0D) (substitutionAt s false at)
     (pick (eqb b 0x0E) (substitutionAt s true at)
     (refused unknownToken at))
 
-unfoldable pub tableFrom09 : List ℕ → Bool → ℕ → ℕ → Answer Gist
-tableFrom09 s inline b at =
-    pick (eqb b 0x09 || eqb b 0x49) (namedAt s inline entityRefKind at)
-    (pick (eqb b 0x0A) (namedAt s inline piTargetKind at)
-    (pick (eqb b 0x0B) (textTokenAt s piDataKind at)
-    (tableFrom0D s b at)))
-
-unfoldable pub tableFrom05 : List ℕ → Bool → ℕ → ℕ → Answer Gist
-tableFrom05 s inline b at =
+unfoldable pub tableFrom05 : List ℕ → ℕ → ℕ → Answer Gist
+tableFrom05 s b at =
     pick (eqb b 0x05 || eqb b 0x45) (valueTokenAt s at)
-    (pick (eqb b 0x06 || eqb b 0x46) (namedAt s inline attributeKind at)
     (pick (eqb b 0x07 || eqb b 0x47) (textTokenAt s cdataKind at)
     (pick (eqb b 0x08 || eqb b 0x48) (charRefAt s at)
-    (tableFrom09 s inline b at))))
+    (pick (eqb b 0x0B) (textTokenAt s piDataKind at)
+    (tableFrom0D s b at))))
 
-unfoldable pub tableFrom02 : List ℕ → Bool → ℕ → ℕ → Answer Gist
-tableFrom02 s inline b at =
+unfoldable pub tableFrom02 : List ℕ → ℕ → ℕ → Answer Gist
+tableFrom02 s b at =
     pick (eqb b 0x02) (bareAt closeStartKind at)
     (pick (eqb b 0x03) (bareAt closeEmptyKind at)
     (pick (eqb b 0x04) (bareAt closeElementKind at)
-    (tableFrom05 s inline b at)))
+    (tableFrom05 s b at)))
+
+unfoldable pub namelessAt : List ℕ → ℕ → ℕ → Answer Gist
+namelessAt s b at = pick (eqb b 0x0C) (instanceAt s at) (tableFrom02 s b at)
 
 -- a substitution, after its number
 abbrev pub substitutionAfterNumber : List ℕ → Bool → ℕ → ℕ → Answer Gist
@@ -76,27 +111,19 @@ substitutionAfterNumber s optional number at =
     typeAt s at then λ _ at.
     given (gist substitutionKind number optional H.Nothing) at
 
--- an open token: its dependency, its list's size, and what comes after each of its reads
+-- an open token's numbers before its name: its dependency, which is handed on, and a u32
 abbrev pub dependencyAt : List ℕ → Bool → ℕ → Answer ℕ
 dependencyAt s carried at = pick carried (numberAt s at 2) (given 0xFFFF at)
 
-abbrev pub listSizeAt : List ℕ → Bool → ℕ → Answer ℕ
-listSizeAt s announced at = pick announced (numberAt s at 4) (given 0 at)
-
-abbrev pub openAfterName : List ℕ → Bool → ℕ → Name → ℕ → Answer Gist
-openAfterName s announced dependency name at =
-    listSizeAt s announced at then λ _ at.
-    given (openOf dependency name) at
-
-abbrev pub openAfterSize : List ℕ → Bool → Bool → ℕ → ℕ → Answer Gist
-openAfterSize s inline announced dependency at =
-    nameAt s at inline then λ name at.
-    openAfterName s announced dependency name at
-
-abbrev pub openAfterDependency : List ℕ → Bool → Bool → ℕ → ℕ → Answer Gist
-openAfterDependency s inline announced dependency at =
+abbrev pub numbersAfterDependency : List ℕ → ℕ → ℕ → Answer ℕ
+numbersAfterDependency s dependency at =
     numberAt s at 4 then λ _ at.
-    openAfterSize s inline announced dependency at
+    given dependency at
+
+abbrev pub numbersAt : List ℕ → Bool → ℕ → Answer ℕ
+numbersAt s carried at =
+    dependencyAt s carried at then λ dependency at.
+    numbersAfterDependency s dependency at
 
 -- a definition in place, and what comes after each of its reads
 abbrev pub definitionAfterBytes : List ℕ → Part → ℕ → ℕ → Answer Part

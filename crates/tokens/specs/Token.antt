@@ -57,9 +57,15 @@ charRefKind = 12
 abbrev pub substitutionKind : ℕ
 substitutionKind = 13
 
--- what a token is, but for where it stands
+-- What a token is, but for where it stands. Document 02, P2: only an open token announces attributes, and "tokens without a name have 0"
+-- as their name's offset
 abbrev pub gist : ℕ → ℕ → Bool → Held → Gist
-gist kind number flag held = record { kind = kind; number = number; flag = flag; held = held }
+gist kind number flag held = record { kind = kind; number = number; flag = flag; announced = false; name = 0; held = held }
+
+-- a token with a name: document 02, P2, "where its name stands"
+abbrev pub namedGist : ℕ → ℕ → Bool → Bool → Name → Gist
+namedGist kind number flag announced name =
+    record { kind = kind; number = number; flag = flag; announced = announced; name = name .offset; held = H.Name name }
 
 -- "02 close start; 03 close empty; 04 close element": the byte alone
 abbrev pub bareAt : ℕ → ℕ → Answer Gist
@@ -88,22 +94,22 @@ substitutionAt s optional at =
 abbrev pub namedAt : List ℕ → Bool → ℕ → ℕ → Answer Gist
 namedAt s inline kind at =
     nameAt s at inline then λ name at.
-    given (gist kind 0 false (H.Name name)) at
+    given (namedGist kind 0 false false name) at
 
 -- "0xFFFF means none"; 0 is a dependency
-abbrev pub openOf : ℕ → Name → Gist
-openOf dependency name =
-    pick (eqb dependency 0xFFFF) (gist openKind 0 false (H.Name name)) (gist openKind dependency true (H.Name name))
+abbrev pub openOf : ℕ → Bool → Name → Gist
+openOf dependency announced name =
+    pick (eqb dependency 0xFFFF) (namedGist openKind 0 false announced name) (namedGist openKind dependency true announced name)
 
--- "Open: dependency u16 if carried (0xFFFF means none), u32, name, and u32 for 41."
--- (41 announces attributes, and 01 none.)
+-- "Open: dependency u16 if carried (0xFFFF means none), u32, name, and u32 for 41." Document 02, P2: the token says "if an open byte was 41
+-- or 01" (41 announces attributes, and 01 none), "and where its name stands".
 abbrev pub openAt : List ℕ → Flags → Bool → ℕ → Answer Gist
 openAt s f announced at =
     pick (f .dependencies) (numberAt s at 2) (given 0xFFFF at) then λ dependency at.
     numberAt s at 4 then λ _ at.
     nameAt s at (f .inline) then λ name at.
     pick announced (numberAt s at 4) (given 0 at) then λ _ at.
-    given (openOf dependency name) at
+    given (openOf dependency announced name) at
 
 -- "CDATA and PI data: u16 n, then n units; the view stops before the first zero unit."
 abbrev pub textTokenAt : List ℕ → ℕ → ℕ → Answer Gist

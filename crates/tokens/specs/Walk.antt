@@ -30,7 +30,16 @@ stepAnswer (S.Refused r) = refusal r
 -- "Place is the token byte's offset; length runs from there to where the walk reads on, be it a 0F or 00."
 abbrev pub tokenOf : ℕ → Gist → ℕ → Token
 tokenOf place g next =
-    record { kind = g .kind; place = place; len = next - place; number = g .number; flag = g .flag; held = g .held }
+    record {
+      kind = g .kind;
+      place = place;
+      len = next - place;
+      number = g .number;
+      flag = g .flag;
+      announced = g .announced;
+      name = g .name;
+      held = g .held;
+    }
 
 -- "0F takes three bytes, each a read of its own"
 abbrev pub headerAt : List ℕ → ℕ → Answer Unit

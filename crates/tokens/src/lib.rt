@@ -44,14 +44,18 @@ pub enum Held {
     Instance(Instance),
 }
 
-// A token: its kind (1 to 13, as in the sheet), the offset of its byte, how far it is from there to where the walk reads on, its number
-// (dependency, char, substitution, else 0), its flag (dependency present, or optional), and what it holds.
+// A token: the offset of its byte, how far it is from there to where the walk reads on, its kind (1 to 13, as in the sheet), its number
+// (dependency, char, substitution, else 0), its flag (dependency present, or optional), whether it announces attributes (an open byte 41),
+// its name's offset (0 where it has no name), and what it holds. (The place comes first, where the other answers of a step have a position
+// too: with a smaller field there each answer was taken apart into bytes and put together again.)
 pub struct Token {
-    pub kind: u8,
     pub place: usize,
     pub len: usize,
+    pub kind: u8,
     pub number: u16,
     pub flag: bool,
+    pub announced: bool,
+    pub name: usize,
     pub held: Held,
 }
 

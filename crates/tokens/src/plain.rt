@@ -14,14 +14,17 @@ use value::Kind;
 use value::ValueRead;
 ghost use mathlib.Core.Path.{_≡_};
 ghost use Rattle.cursor.specs.Answers.{u8Answer, u16Answer, u32Answer};
-ghost use Rattle.tokens.specs.Token.{bareAt, charRefAt, typeAt, substitutionAt, namedAt, openOf, openAt, textTokenAt, valueTokenAt};
-ghost use Rattle.tokens.specs.Pieces.{gistAnswer, tableFrom02, tableFrom05, tableFrom09, tableFrom0D, substitutionAfterNumber, dependencyAt, listSizeAt, openAfterDependency, openAfterSize, openAfterName};
+ghost use Rattle.tokens.specs.Token.{gist, namedGist, bareAt, charRefAt, typeAt, substitutionAt, openAt, textTokenAt, valueTokenAt};
+ghost use Rattle.tokens.specs.Table.{gistAt};
+ghost use Rattle.tokens.specs.Pieces.{gistAnswer, lead, openLead, namedOf, namedAfterName, namedAfterLead, frontTo, LeadsTo, namelessAt, tableFrom02, tableFrom05, tableFrom0D, substitutionAfterNumber, dependencyAt, numbersAfterDependency, numbersAt, listSizeAt};
 
 // What a token is, but for where it stands.
 pub struct Gist {
     pub kind: u8,
     pub number: u16,
     pub flag: bool,
+    pub announced: bool,
+    pub name: usize,
     pub held: Held,
 }
 
@@ -30,36 +33,54 @@ pub enum GistRead {
     Refused(Refusal),
 }
 
-// The token table from 02 on: the close tokens, and what comes after them in the table.
-pub(crate) fn closes(b: u8, c: Cursor, s: &[u8], inline: bool) -> GistRead
-    ensures { λ r. ⌜ gistAnswer r ≡ tableFrom02 (now (s .entry)) inline b (c .at) ⌝ }
+// What is known of a token before its name: all but the name. (What is the same for every token of a byte is then a constant in the code.)
+pub struct Lead {
+    pub kind: u8,
+    pub number: u16,
+    pub flag: bool,
+    pub announced: bool,
+}
+
+// Whether a name follows, and where.
+pub enum Front {
+    Named(Lead, Cursor),
+    Nameless,
+    Refused(Refusal),
+}
+
+// What stands before the name of a token that has one. Every name is then read in one place, so that its read is compiled into the step.
+pub(crate) fn front_of(b: u8, c: Cursor, s: &[u8], flags: Flags) -> Front
+    ensures { λ r. ⌜ frontTo (now (s .entry)) (flags .inline) (namelessAt (now (s .entry)) b (c .at)) r ≡ gistAt (now (s .entry)) flags b (c .at) ⌝ }
+{
+    match b {
+        0x01 => opened(c, s, flags, false),
+        0x41 => opened(c, s, flags, true),
+        0x06 | 0x46 => Front::Named(lead_of(Token::ATTRIBUTE, 0, false, false), c),
+        0x09 | 0x49 => Front::Named(lead_of(Token::ENTITY_REF, 0, false, false), c),
+        0x0A => Front::Named(lead_of(Token::PI_TARGET, 0, false, false), c),
+        _ => Front::Nameless,
+    }
+}
+
+// The token table without the names, from 02 on: the close tokens, and what comes after them.
+pub(crate) fn closes(b: u8, c: Cursor, s: &[u8]) -> GistRead
+    ensures { λ r. ⌜ gistAnswer r ≡ tableFrom02 (now (s .entry)) b (c .at) ⌝ }
 {
     match b {
         0x02 => bare(Token::CLOSE_START, c),
         0x03 => bare(Token::CLOSE_EMPTY, c),
         0x04 => bare(Token::CLOSE_ELEMENT, c),
-        _ => contents(b, c, s, inline),
+        _ => contents(b, c, s),
     }
 }
 
-fn contents(b: u8, c: Cursor, s: &[u8], inline: bool) -> GistRead
-    ensures { λ r. ⌜ gistAnswer r ≡ tableFrom05 (now (s .entry)) inline b (c .at) ⌝ }
+fn contents(b: u8, c: Cursor, s: &[u8]) -> GistRead
+    ensures { λ r. ⌜ gistAnswer r ≡ tableFrom05 (now (s .entry)) b (c .at) ⌝ }
 {
     match b {
         0x05 | 0x45 => held_value(c, s),
-        0x06 | 0x46 => named(Token::ATTRIBUTE, c, s, inline),
         0x07 | 0x47 => text(Token::CDATA, c, s),
         0x08 | 0x48 => char_ref(c, s),
-        _ => references(b, c, s, inline),
-    }
-}
-
-fn references(b: u8, c: Cursor, s: &[u8], inline: bool) -> GistRead
-    ensures { λ r. ⌜ gistAnswer r ≡ tableFrom09 (now (s .entry)) inline b (c .at) ⌝ }
-{
-    match b {
-        0x09 | 0x49 => named(Token::ENTITY_REF, c, s, inline),
-        0x0A => named(Token::PI_TARGET, c, s, inline),
         0x0B => text(Token::PI_DATA, c, s),
         _ => substitutions(b, c, s),
     }
@@ -78,14 +99,31 @@ fn substitutions(b: u8, c: Cursor, s: &[u8]) -> GistRead
     }
 }
 
-fn made(kind: u8, number: u16, flag: bool, held: Held) -> Gist
-    ensures { λ r. ⌜ r ≡ record { kind = kind; number = number; flag = flag; held = held } ⌝ }
+// A token without a name.
+pub(crate) fn made(kind: u8, number: u16, flag: bool, held: Held) -> Gist
+    ensures { λ r. ⌜ r ≡ gist kind number flag held ⌝ }
 {
     Gist {
         kind: kind,
         number: number,
         flag: flag,
+        announced: false,
+        name: 0,
         held: held,
+    }
+}
+
+// A token with a name.
+fn with_name(kind: u8, number: u16, flag: bool, announced: bool, n: Name) -> Gist
+    ensures { λ r. ⌜ r ≡ namedGist kind number flag announced n ⌝ }
+{
+    Gist {
+        kind: kind,
+        number: number,
+        flag: flag,
+        announced: announced,
+        name: n.offset,
+        held: Held::Name(n),
     }
 }
 
@@ -94,15 +132,6 @@ fn bare(kind: u8, c: Cursor) -> GistRead
     ensures { λ r. ⌜ gistAnswer r ≡ bareAt kind (c .at) ⌝ }
 {
     GistRead::Read(made(kind, 0, false, Held::Nothing), c)
-}
-
-fn named(kind: u8, c: Cursor, s: &[u8], inline: bool) -> GistRead
-    ensures { λ r. ⌜ gistAnswer r ≡ namedAt (now (s .entry)) inline kind (c .at) ⌝ }
-{
-    match name::read_name_ref(c, s, inline) {
-        NameRead::Read(n, next) => GistRead::Read(made(kind, 0, false, Held::Name(n)), next),
-        NameRead::Refused(r) => GistRead::Refused(r),
-    }
 }
 
 fn text(kind: u8, c: Cursor, s: &[u8]) -> GistRead
@@ -178,13 +207,45 @@ fn after_number(n: u16, c: Cursor, s: &[u8], optional: bool) -> GistRead
     }
 }
 
-// An open token; its byte announces attributes (41) or not (01).
-pub(crate) fn opened(c: Cursor, s: &[u8], flags: Flags, announced: bool) -> GistRead
-    ensures { λ r. ⌜ gistAnswer r ≡ openAt (now (s .entry)) flags announced (c .at) ⌝ }
+fn lead_of(kind: u8, number: u16, flag: bool, announced: bool) -> Lead
+    ensures { λ r. ⌜ r ≡ lead kind number flag announced ⌝ }
 {
-    match dependency(c, s, flags.dependencies) {
-        ReadU16::Value(d, next) => after_dependency(d, next, s, flags.inline, announced),
-        ReadU16::Refused(r) => GistRead::Refused(r),
+    Lead {
+        kind: kind,
+        number: number,
+        flag: flag,
+        announced: announced,
+    }
+}
+
+// 0xFFFF is none, and 0 is one.
+fn open_lead(d: u16, announced: bool) -> Lead
+    ensures { λ r. ⌜ r ≡ openLead d announced ⌝ }
+{
+    if d == 0xFFFF {
+        lead_of(Token::OPEN, 0, false, announced)
+    } else {
+        lead_of(Token::OPEN, d, true, announced)
+    }
+}
+
+// An open token before its name; its byte announces attributes (41) or not (01).
+fn opened(c: Cursor, s: &[u8], flags: Flags, announced: bool) -> Front
+    ensures { λ r. ⌜ LeadsTo (now (s .entry)) (flags .inline) r (openAt (now (s .entry)) flags announced (c .at)) ⌝ }
+{
+    match numbers(c, s, flags.dependencies) {
+        ReadU16::Value(d, next) => Front::Named(open_lead(d, announced), next),
+        ReadU16::Refused(r) => Front::Refused(r),
+    }
+}
+
+// An open token's numbers before its name: the dependency, which is handed on, and a u32.
+fn numbers(c: Cursor, s: &[u8], carried: bool) -> ReadU16
+    ensures { λ r. ⌜ u16Answer r ≡ numbersAt (now (s .entry)) carried (c .at) ⌝ }
+{
+    match dependency(c, s, carried) {
+        ReadU16::Value(d, next) => after_dependency(d, next, s),
+        ReadU16::Refused(r) => ReadU16::Refused(r),
     }
 }
 
@@ -199,29 +260,30 @@ fn dependency(c: Cursor, s: &[u8], carried: bool) -> ReadU16
     }
 }
 
-fn after_dependency(d: u16, c: Cursor, s: &[u8], inline: bool, announced: bool) -> GistRead
-    ensures { λ r. ⌜ gistAnswer r ≡ openAfterDependency (now (s .entry)) inline announced d (c .at) ⌝ }
+fn after_dependency(d: u16, c: Cursor, s: &[u8]) -> ReadU16
+    ensures { λ r. ⌜ u16Answer r ≡ numbersAfterDependency (now (s .entry)) d (c .at) ⌝ }
 {
     match c.u32(s) {
-        ReadU32::Value(_, next) => after_size(d, next, s, inline, announced),
-        ReadU32::Refused(r) => GistRead::Refused(r),
+        ReadU32::Value(_, next) => ReadU16::Value(d, next),
+        ReadU32::Refused(r) => ReadU16::Refused(r),
     }
 }
 
-fn after_size(d: u16, c: Cursor, s: &[u8], inline: bool, announced: bool) -> GistRead
-    ensures { λ r. ⌜ gistAnswer r ≡ openAfterSize (now (s .entry)) inline announced d (c .at) ⌝ }
+// The name of a token that has one, and what comes after it.
+pub(crate) fn named(l: Lead, c: Cursor, s: &[u8], inline: bool) -> GistRead
+    ensures { λ r. ⌜ gistAnswer r ≡ namedAfterLead (now (s .entry)) inline l (c .at) ⌝ }
 {
     match name::read_name_ref(c, s, inline) {
-        NameRead::Read(n, next) => after_name(d, n, next, s, announced),
+        NameRead::Read(n, next) => after_name(l, n, next, s),
         NameRead::Refused(r) => GistRead::Refused(r),
     }
 }
 
-fn after_name(d: u16, n: Name, c: Cursor, s: &[u8], announced: bool) -> GistRead
-    ensures { λ r. ⌜ gistAnswer r ≡ openAfterName (now (s .entry)) announced d n (c .at) ⌝ }
+fn after_name(l: Lead, n: Name, c: Cursor, s: &[u8]) -> GistRead
+    ensures { λ r. ⌜ gistAnswer r ≡ namedAfterName (now (s .entry)) l n (c .at) ⌝ }
 {
-    match list_size(c, s, announced) {
-        ReadU32::Value(_, next) => GistRead::Read(open_of(d, n), next),
+    match list_size(c, s, l.announced) {
+        ReadU32::Value(_, next) => GistRead::Read(named_of(l, n), next),
         ReadU32::Refused(r) => GistRead::Refused(r),
     }
 }
@@ -237,13 +299,8 @@ fn list_size(c: Cursor, s: &[u8], announced: bool) -> ReadU32
     }
 }
 
-// 0xFFFF is none, and 0 is one.
-fn open_of(d: u16, n: Name) -> Gist
-    ensures { λ r. ⌜ r ≡ openOf d n ⌝ }
+fn named_of(l: Lead, n: Name) -> Gist
+    ensures { λ r. ⌜ r ≡ namedOf l n ⌝ }
 {
-    if d == 0xFFFF {
-        made(Token::OPEN, 0, false, Held::Name(n))
-    } else {
-        made(Token::OPEN, d, true, Held::Name(n))
-    }
+    with_name(l.kind, l.number, l.flag, l.announced, n)
 }

@@ -2,8 +2,8 @@
 use crate::Held;
 use crate::Instance;
 use crate::Token;
-use crate::plain::Gist;
 use crate::plain::GistRead;
+use crate::plain::made;
 use crate::plain::type_at;
 use cursor::Cursor;
 use cursor::Moved;
@@ -44,15 +44,7 @@ fn after_head(i: Instance, c: Cursor, s: &[u8]) -> GistRead
     ensures { λ r. ⌜ gistAnswer r ≡ instanceAfterHead (now (s .entry)) i (c .at) ⌝ }
 {
     match values(i.table, i.count, c, s) {
-        Moved::To(next) => GistRead::Read(
-            Gist {
-                kind: Token::INSTANCE,
-                number: 0,
-                flag: false,
-                held: Held::Instance(i),
-            },
-            next,
-        ),
+        Moved::To(next) => GistRead::Read(made(Token::INSTANCE, 0, false, Held::Instance(i)), next),
         Moved::Refused(r) => GistRead::Refused(r),
     }
 }

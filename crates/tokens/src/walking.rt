@@ -2,6 +2,7 @@
 use crate::Flags;
 use crate::Token;
 use crate::plain;
+use crate::plain::Front;
 use crate::plain::Gist;
 use crate::plain::GistRead;
 use crate::template;
@@ -15,7 +16,7 @@ ghost use lib.ListN.{length};
 ghost use Rattle.cursor.specs.Answers.{movedAnswer};
 ghost use Rattle.tokens.specs.Table.{gistAt};
 ghost use Rattle.tokens.specs.Walk.{turnAt, tokenOf, headerAt};
-ghost use Rattle.tokens.specs.Pieces.{gistAnswer, turnAnswer, turnAfterByte, headerAfterMajor, headerAfterMinor, metToken, metHeader, EndsAfter};
+ghost use Rattle.tokens.specs.Pieces.{gistAnswer, namelessAt, turnAnswer, turnAfterByte, headerAfterMajor, headerAfterMinor, metToken, metHeader, EndsAfter};
 
 pub enum Turned {
     Token(Token, Cursor),
@@ -48,15 +49,23 @@ fn on_byte(place: usize, b: u8, c: Cursor, s: &[u8], flags: Flags) -> Turned
     }
 }
 
-// The token table, from its first.
+// The token table: the tokens with a name, and the others.
 fn gist_at(b: u8, c: Cursor, s: &[u8], flags: Flags) -> GistRead
     ensures { λ r. ⌜ gistAnswer r ≡ gistAt (now (s .entry)) flags b (c .at) ⌝ }
 {
+    match plain::front_of(b, c, s, flags) {
+        Front::Named(l, next) => plain::named(l, next, s, flags.inline),
+        Front::Nameless => nameless(b, c, s),
+        Front::Refused(r) => GistRead::Refused(r),
+    }
+}
+
+fn nameless(b: u8, c: Cursor, s: &[u8]) -> GistRead
+    ensures { λ r. ⌜ gistAnswer r ≡ namelessAt (now (s .entry)) b (c .at) ⌝ }
+{
     match b {
         0x0C => template::read(c, s),
-        0x01 => plain::opened(c, s, flags, false),
-        0x41 => plain::opened(c, s, flags, true),
-        _ => plain::closes(b, c, s, flags.inline),
+        _ => plain::closes(b, c, s),
     }
 }
 
@@ -82,6 +91,8 @@ fn token_of(place: usize, g: Gist, next: usize) -> Token
         len: next - place,
         number: g.number,
         flag: g.flag,
+        announced: g.announced,
+        name: g.name,
         held: held,
     }
 }

@@ -29,7 +29,7 @@ use Rattle.checksum_call.specs.Said.{saidOf}
 use Rattle.print.specs.Text.{ascii, page, put}
 use Rattle.stream_answers.specs.Modes.{ownersText, answerText, tableText, sheetText}
 use Rattle.stream_answers.specs.Walk.{walkText}
-use Rattle.promises.specs.Samples.{emptyElement, anInstance, whole, walkOfStream}
+use Rattle.promises.specs.Samples.{emptyElement, announcedElement, anInstance, whole, walkOfStream}
 
 abbrev part : ℕ → ℕ → Part
 part start len = record { start = start; len = len }
@@ -138,8 +138,11 @@ pub record Calls : Type 0 where
   pub text : put (ascii "abc") (page (ascii "x..") 1) ≡ page (ascii "xab") 3
   -- `stream_answers::walk`
   pub value-line : walkText (anInstance 2 0x08 (0x2A ∷ 0 ∷ 0 ∷ 0 ∷ [])) 0 22 plainly ≡ ascii "0 22 1 7 512 - 1 08:2:18:22:u42\nok 1\n"
+  -- an open token's line: its name's offset, no dependency, attributes announced or not
+  pub plain-line : walkText emptyElement 0 11 plainly ≡ ascii "0 9 2 512 - 0\n9 1 4\nok 2\n"
+  pub announced-line : walkText announcedElement 0 15 plainly ≡ ascii "0 13 2 512 - 1\n13 1 4\nok 2\n"
   -- `stream_answers::owners`: as many words as tokens
   pub owners-line : ownersText (gives 2) (0 ∷ 1 ∷ 9 ∷ []) ≡ ascii "owners 0 1\n"
   -- `stream_answers::sheet_call`, `owners_call`: the answer's word, and all words that were lent
-  pub sheet-call : sheetText (walkOfStream (whole emptyElement)) (9 ∷ []) ≡ ascii "answer 9000000000000002\nwords 0000000000000009\n"
+  pub sheet-call : sheetText (walkOfStream (whole emptyElement)) (9 ∷ []) ≡ ascii "answer 9000000000000004\nwords 0000000000000009\n"
   pub owners-call : answerText (packedOf (gives 2)) ++ tableText (0 ∷ 1 ∷ 9 ∷ []) ≡ ascii "answer 0000000000000002\nwords 00000000 00000001 00000009\n"

@@ -1,14 +1,36 @@
--- `put_words` meets its contract: one store a word. Assumes nothing.
-use Prim.Native.Nat.{_*_}
+-- `put_words` meets its contract: two stores, or one where there is room for one. Assumes nothing.
+use mathlib.Core.Path.{refl}
 use borrow.Author.Needs.{needs}
-use Rattle.sheet.proofs.Noting.{put-one}
+use Rattle.sheet.proofs.Noting.{put-two, put-first}
 use Rattle.sheet.proofs.put_words.Statement.{statement}
 use Rattle.sheet.proofs.put_words.Tie as tie
 
 returns : tie.Need-returns
 returns c =
-    let a = c .before .before .before .before .before .before .args in
-    put-one (a .words .now) _ (a .n * 1) _ _ (c .before .before .put-word .ensures) (c .before .before .before .word .ensures)
+    let a = c .before .before .before .before .args in
+    put-two (a .words .now) _ _ _ _ _ _ refl (c .before .first-word .ensures) (c .second-word .ensures)
+
+returns-2 : tie.Need-returns-2
+returns-2 c =
+    let a = c .before .before .before .before .before .before .before .args in
+    put-first (a .words .now) _ _ _ _ _ (c .before .before .before .before .before .if1 .left) (c .before .before .put-word .ensures) (c .before .before .before .first-word2 .ensures)
 
 pub put-words-spec : {M : Type 1} → statement M
-put-words-spec = tie.close (tie.spec (λ c. search needs) (λ c κs. search needs) (λ c κs. search needs) (λ c. search needs) returns)
+put-words-spec =
+    tie.close
+    (tie.spec
+    (λ c. search needs)
+    (λ c. search needs)
+    (λ c κs. search needs)
+    (λ c. search needs)
+    (λ c. search needs)
+    (λ c κs. search needs)
+    (λ c. search needs)
+    (λ c. search needs)
+    (λ c. search needs)
+    (λ c. search needs)
+    returns
+    (λ c κs. search needs)
+    (λ c κs. search needs)
+    (λ c. search needs)
+    returns-2)

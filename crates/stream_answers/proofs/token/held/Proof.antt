@@ -14,8 +14,8 @@ returns c =
 
 returns-2 : tie.Need-returns-2
 returns-2 c =
-    let a = c .before .before .before .before .before .before .before .before .before .args in
-    put-as (ap (byHeld (a .s .now) (a .t)) (sym (c .before .before .before .before .before .h .given .1))) (c .before .before .named .ensures)
+    let a = c .before .before .before .before .before .before .before .before .args in
+    put-as (ap (byHeld (a .s .now) (a .t)) (sym (c .before .before .before .before .enum-told2 .given .1))) (c .before .before .named .ensures)
 
 returns-3 : tie.Need-returns-3
 returns-3 c =
@@ -23,7 +23,7 @@ returns-3 c =
     let q = p .before .before .before .before in
     let a = q .args in
     put-as
-    (ap bytesField (c .before .before .before .of .ensures) ∙ ap (byHeld (a .s .now) (a .t)) (sym (p .h2 .given .1)))
+    (ap bytesField (c .before .before .before .of .ensures) ∙ ap (byHeld (a .s .now) (a .t)) (sym (p .h .given .1)))
     (c .before .before .bytes .ensures)
 
 returns-4 : tie.Need-returns-4
@@ -31,12 +31,12 @@ returns-4 c =
     let p = c .before .before .before .before .before .before in
     let q = p .before .before .before .before in
     let a = q .args in
-    put-as (ap (byHeld (a .s .now) (a .t)) (sym (p .h3 .given .1))) (c .before .before .sizeless .ensures)
+    put-as (ap (byHeld (a .s .now) (a .t)) (sym (p .h2 .given .1))) (c .before .before .sizeless .ensures)
 
 returns-5 : tie.Need-returns-5
 returns-5 c =
     let a = c .before .before .before .before .before .before .before .before .before .args in
-    put-as (ap (byHeld (a .s .now) (a .t)) (sym (c .before .before .before .before .before .h4 .given .1))) (c .before .before .instance .ensures)
+    put-as (ap (byHeld (a .s .now) (a .t)) (sym (c .before .before .before .before .before .h3 .given .1))) (c .before .before .instance .ensures)
 
 pub held-spec : {M : Type 1} → statement M
 held-spec =
