@@ -92,6 +92,26 @@ bool empty_element()
     return so;
 }
 
+bool pairs()
+{
+    // A PI target with its data, an empty element, and a target with its data again.
+    const uint8_t stream[] = {0x0A, 0x00, 0x02, 0, 0, 0x0B, 0, 0,                    //
+                              0x01, 0, 0, 0, 0, 0x00, 0x02, 0, 0, 0x03,              //
+                              0x0A, 0x00, 0x02, 0, 0, 0x0B, 0, 0};
+    uint32_t table[7] = {7, 7, 7, 7, 7, 7, 7};
+    bool so = true;
+
+    so &= refuses("a target alone is unfinished", doortumble_owners(stream, 5, 0, 5, 0, 0, table, 7), DOORTUMBLE_UNFINISHED, 1);
+    so &= refuses("a pair alone is unfinished", doortumble_owners(stream, 8, 0, 8, 0, 0, table, 7), DOORTUMBLE_UNFINISHED, 2);
+    so &= refuses("data alone is no body", doortumble_owners(stream, 8, 5, 3, 0, 0, table, 7), DOORTUMBLE_NO_BODY, 0);
+    so &= holds("a refusal leaves the table", table[0] == 7 && table[1] == 7);
+    so &= counts("a pair on either side", doortumble_owners(stream, sizeof stream, 0, sizeof stream, 0, 0, table, 7), 6);
+    so &= holds("the pairs have no owner", table[0] == 0 && table[1] == 0 && table[4] == 0 && table[5] == 0);
+    so &= holds("the root is token 2", table[2] == 0 && doortumble_has_owner(table[3]) && doortumble_owner(table[3]) == 2);
+    so &= holds("a word past the table stays", table[6] == 7);
+    return so;
+}
+
 bool flags()
 {
     const uint8_t none[] = {0x01, 0xFF, 0xFF, 0, 0, 0, 0, 0x00, 0x02, 0, 0, 0x03, 0x00};
@@ -225,7 +245,7 @@ bool chunk_header()
 
 int main()
 {
-    const bool so[] = {nothing_lent(), empty_element(), flags(), whole_file(), file_header(), chunk_header()};
+    const bool so[] = {nothing_lent(), empty_element(), pairs(), flags(), whole_file(), file_header(), chunk_header()};
 
     for (const bool one : so)
         if (!one)

@@ -471,7 +471,7 @@ static inline int doortumble_has_name(doortumble_token token)
 // ------------------------------------------------------------------------------------------------------------ the owners
 
 // Read a stream as one event body, and tell of each token which token it belongs to. The tokens are those of the sheet, in the
-// same order.
+// same order. A body is one element or one instance, its root; before the root a PI target with its data may stand, and one after.
 //
 //   stream to inline_names   as for doortumble_sheet
 //   table, table_len         lent for the owner table, and its length in words; DOORTUMBLE_MOST_TOKENS is always enough
@@ -485,9 +485,9 @@ static inline int doortumble_has_name(doortumble_token token)
 uint64_t doortumble_owners(const uint8_t *stream, size_t stream_len, uint32_t start, uint32_t length,
                            uint32_t dependencies, uint32_t inline_names, uint32_t *table, size_t table_len);
 
-// A table's word is the owner's number plus 1, or 0 where the token has no owner: the root's open token, or the instance. What
-// stands in an attribute belongs to the attribute's token; all else in an element, its close tokens too, to its open token. An
-// owner's number is always less than the number of what it owns.
+// A table's word is the owner's number plus 1, or 0 where the token has no owner: the root's open token or the instance, and a PI
+// target and its data before or after the root. What stands in an attribute belongs to the attribute's token; all else in an
+// element, its close tokens too, to its open token. An owner's number is always less than the number of what it owns.
 
 // Not 0 where the token has an owner.
 static inline int doortumble_has_owner(uint32_t word)

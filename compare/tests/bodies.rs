@@ -1,10 +1,13 @@
-//! The machine that answers mode O, held to document 01's grammar as bodies.rs writes it down: on every
+//! The machine that answers mode O, held to document 01's grammar with document 02's request P4 as bodies.rs writes it down: on every
 //! list of kinds up to a length, on made bodies, and at the real limit of levels.
 
 use compare::cases::lists;
 use compare::cases::random::Random;
 use compare::oracle::bodies::{bodies, by_definition, each_body, enough};
-use compare::oracle::kinds::{ALL, CLOSE_ELEMENT, CLOSE_EMPTY, CLOSE_START, ONE_ITEM, OPEN, VALUE};
+use compare::oracle::kinds::{
+    ALL, CLOSE_ELEMENT, CLOSE_EMPTY, CLOSE_START, INSTANCE, ONE_ITEM, OPEN, PI_DATA, PI_TARGET,
+    VALUE,
+};
 use compare::oracle::owners::{MOST_LEVELS, owners};
 use compare::oracle::refusal::Refusal;
 use std::collections::BTreeSet;
@@ -51,7 +54,7 @@ fn agree(alphabet: &[u8], most: usize, most_levels: usize) -> Seen {
 #[test]
 fn all_kinds() {
     let seen = agree(&ALL, 5, MOST_LEVELS);
-    assert_eq!((seen.lists, seen.bodies), (402_234, 77));
+    assert_eq!((seen.lists, seen.bodies), (402_234, 86));
 }
 
 /// The four items of an attribute are one kind here.
@@ -66,7 +69,7 @@ fn one_item() {
 #[ignore = "takes minutes"]
 fn longer() {
     let seen = agree(&ONE_ITEM, 7, MOST_LEVELS);
-    assert_eq!((seen.lists, seen.bodies), (11_111_111, 182));
+    assert_eq!((seen.lists, seen.bodies), (11_111_111, 232));
     let seen = agree(&ALL, 6, MOST_LEVELS);
     assert_eq!(seen.lists, 5_229_043);
 }
@@ -88,6 +91,18 @@ fn tags() {
         let seen = agree(&tags, 9, most_levels);
         assert!(seen.bodies > 0 && seen.refused_14 > 0 && seen.refused_15 > 0);
     }
+}
+
+/// What stands around the root, and the shortest roots: long enough for two pairs on either side.
+#[test]
+fn around() {
+    let seen = agree(
+        &[PI_TARGET, PI_DATA, INSTANCE, OPEN, CLOSE_EMPTY],
+        7,
+        MOST_LEVELS,
+    );
+    // An instance and an empty element, each alone, with a pair before, after, and both.
+    assert_eq!(seen.bodies, 8);
 }
 
 /// A token more than `enough` makes no further list begin a body, and all bodies that begin with a
@@ -146,6 +161,12 @@ fn real_limit() {
         for _ in 0..20 {
             whole.push(lists::deep(&mut random, levels));
         }
+        // A leading pair opens no level.
+        let led = whole.iter();
+        let led: Vec<Vec<u8>> = led
+            .map(|list| [&[PI_TARGET, PI_DATA], &list[..]].concat())
+            .collect();
+        whole.extend(led);
         for list in whole {
             let ways = bodies(&list);
             assert_eq!(ways.len(), 1);
@@ -200,4 +221,49 @@ fn owners_by_hand() {
     assert_eq!(ways.len(), 1);
     assert_eq!(ways[0].owners(body.len()), table);
     assert_eq!(owners(&[INSTANCE], MOST_LEVELS), Ok(vec![0]));
+}
+
+/// By hand: what document 02's request P4 says, and what follows from it.
+#[test]
+fn pairs_by_hand() {
+    const T: u8 = PI_TARGET;
+    const D: u8 = PI_DATA;
+    const I: u8 = INSTANCE;
+    const O: u8 = OPEN;
+    const E: u8 = CLOSE_EMPTY;
+    let bodies: [(&[u8], &[u32]); 6] = [
+        (&[T, D, I], &[0, 0, 0]),
+        (&[I, T, D], &[0, 0, 0]),
+        (&[T, D, I, T, D], &[0, 0, 0, 0, 0]),
+        (&[T, D, O, E], &[0, 0, 0, 3]),
+        (&[O, E, T, D], &[0, 1, 0, 0]),
+        (&[T, D, O, E, T, D], &[0, 0, 0, 3, 0, 0]),
+    ];
+    for (list, table) in bodies {
+        assert_eq!(owners(list, MOST_LEVELS), Ok(table.to_vec()), "{list:?}");
+    }
+    let refused: [(&[u8], u8, u64); 16] = [
+        (&[], 15, 0),
+        (&[T], 15, 1),
+        // "A lone pair is unfinished."
+        (&[T, D], 15, 2),
+        (&[T, D, O], 15, 3),
+        (&[I, T], 15, 2),
+        (&[O, E, T], 15, 3),
+        // "Two leading pairs are refused 13 at the second target."
+        (&[T, D, T, D, I], 13, 2),
+        (&[T, D, T], 13, 2),
+        (&[D], 13, 0),
+        (&[T, T], 13, 1),
+        (&[T, I], 13, 1),
+        (&[T, D, D], 13, 2),
+        (&[T, D, E], 13, 2),
+        (&[I, D], 13, 1),
+        (&[I, T, I], 13, 2),
+        (&[I, T, D, T], 13, 3),
+    ];
+    for (list, number, place) in refused {
+        let refusal = Err(Refusal::new(number, place));
+        assert_eq!(owners(list, MOST_LEVELS), refusal, "{list:?}");
+    }
 }

@@ -49,8 +49,7 @@ fn samples_as_bodies() {
 #[test]
 fn refused_bodies() {
     let open = "01 00000000 00020000";
-    // A PI target alone, without data, with data after something else, and after a fragment header.
-    assert_eq!(owners("0A 00020000"), "refused 13 0\n");
+    // In content a PI target without data, with data after something else, and after a fragment header.
     let targets = |text: &str| owners(&format!("{open} 02 0A 00020000 {text} 04"));
     assert_eq!(targets(""), "refused 13 3\n");
     assert_eq!(targets("05 00 0B 0000"), "refused 13 3\n");
@@ -67,6 +66,36 @@ fn refused_bodies() {
     assert_eq!(owners(&format!("{attribute} 05 00 03")), "owners 0 1 2 1\n");
     assert_eq!(owners(&format!("{attribute} 07 0000 03")), "refused 13 2\n");
     assert_eq!(owners(&format!("{open} 05 00")), "refused 13 1\n");
+}
+
+/// Document 02's request P4: a pair before and after the root.
+#[test]
+fn pairs_around_the_root() {
+    let (target, pair) = ("0A 00020000", "0A 00020000 0B 0000");
+    let element = "01 00000000 00020000 03";
+    assert_eq!(owners(target), "refused 15 1\n");
+    assert_eq!(owners(pair), "refused 15 2\n");
+    assert_eq!(owners("0B 0000"), "refused 13 0\n");
+    assert_eq!(
+        owners(&format!("{pair} {pair} {element}")),
+        "refused 13 2\n"
+    );
+    assert_eq!(owners(&format!("{target} {element}")), "refused 13 1\n");
+    assert_eq!(owners(&format!("{pair} {element}")), "owners 0 0 0 3\n");
+    assert_eq!(owners(&format!("{element} {pair}")), "owners 0 1 0 0\n");
+    assert_eq!(owners(&format!("{element} {target}")), "refused 15 3\n");
+    let both = format!("{pair} {element} {pair}");
+    assert_eq!(owners(&both), "owners 0 0 0 3 0 0\n");
+    assert_eq!(owners(&format!("{both} {target}")), "refused 13 6\n");
+    let instance = format!("{pair} 0F 01 01 00 {INSTANCE} {pair} 00");
+    assert_eq!(owners(&instance), "owners 0 0 0 0 0\n");
+    // The C call: 16 after the grammar's refusals.
+    assert_eq!(call(4, 0, pair), "answer 8f00000000000002\nwords\n");
+    let short = "answer 9000000000000006\nwords ffffffff\n";
+    assert_eq!(call(4, 1, &both), short);
+    let words = "00000000 00000000 00000000 00000003 00000000 00000000 ffffffff";
+    let whole = format!("answer 0000000000000006\nwords {words}\n");
+    assert_eq!(call(4, 7, &both), whole);
 }
 
 #[test]

@@ -7,7 +7,8 @@ use super::random::Random;
 use super::streams::{self, FRAGMENT, Stream, shortest_of_list};
 use super::token_cases::{self, case, flags, window};
 use crate::oracle::kinds::{
-    ALL, CLOSE_ELEMENT, CLOSE_EMPTY, CLOSE_START, INSTANCE, ITEMS, ONE_ITEM, OPEN, PI_TARGET, VALUE,
+    ALL, CLOSE_ELEMENT, CLOSE_EMPTY, CLOSE_START, INSTANCE, ITEMS, ONE_ITEM, OPEN, PI_DATA,
+    PI_TARGET, VALUE,
 };
 
 /// The flag of mode C that asks for the owner call.
@@ -62,12 +63,14 @@ fn body(random: &mut Random) -> Vec<Case> {
     cases
 }
 
-/// Tokens in any order, or an instance with anything after it or in an element.
+/// Tokens in any order, or an instance with anything after it or in an element, or a pair with anything after it.
 fn any_tokens(random: &mut Random) -> Vec<Case> {
-    let mut list: Vec<u8> = match random.below(4) {
+    let mut list: Vec<u8> = match random.below(6) {
         0 => vec![INSTANCE],
         1 => vec![OPEN, CLOSE_START, INSTANCE],
         2 => vec![OPEN, CLOSE_START],
+        3 => vec![PI_TARGET, PI_DATA],
+        4 => vec![INSTANCE, PI_TARGET, PI_DATA],
         _ => Vec::new(),
     };
     for _ in 0..random.below(8) {
@@ -81,6 +84,9 @@ fn any_tokens(random: &mut Random) -> Vec<Case> {
 fn deep(random: &mut Random) -> Vec<Case> {
     let levels = random.one_of(&[62, 63, 64, 65, 66, 67, 130]);
     let mut list = lists::deep(random, levels);
+    if random.once_in(4) {
+        list.splice(0..0, [PI_TARGET, PI_DATA]);
+    }
     if random.once_in(2) {
         lists::change(random, &mut list);
     }

@@ -1,4 +1,4 @@
-//! Lists of token kinds: bodies of document 01's grammar, changed ones, and all short ones.
+//! Lists of token kinds: bodies of document 01's grammar with document 02's request P4, changed ones, and all short ones.
 
 use super::random::Random;
 use crate::oracle::kinds::{
@@ -6,14 +6,24 @@ use crate::oracle::kinds::{
     PI_TARGET,
 };
 
-/// A body: an instance, or an element with so many levels at most.
+/// A body: an instance, or an element with so many levels at most, and now and then a pair before and after it.
 pub fn body(random: &mut Random, levels: usize) -> Vec<u8> {
-    if random.once_in(8) {
-        return vec![INSTANCE];
-    }
     let mut list = Vec::new();
-    element(random, levels, &mut list);
+    pair(random, &mut list);
+    if random.once_in(8) {
+        list.push(INSTANCE);
+    } else {
+        element(random, levels, &mut list);
+    }
+    pair(random, &mut list);
     list
+}
+
+/// Adds a PI target and its data, now and then.
+fn pair(random: &mut Random, list: &mut Vec<u8>) {
+    if random.once_in(4) {
+        list.extend([PI_TARGET, PI_DATA]);
+    }
 }
 
 /// Adds an element with so many levels at most.

@@ -14,7 +14,9 @@ use crate::oracle::kinds::{
 };
 
 /// A body with every token in every place where it may stand.
-const EVERY_TOKEN: [u8; 36] = [
+const EVERY_TOKEN: [u8; 40] = [
+    PI_TARGET,
+    PI_DATA,
     OPEN,
     ATTRIBUTE,
     ATTRIBUTE,
@@ -51,6 +53,8 @@ const EVERY_TOKEN: [u8; 36] = [
     CDATA,
     CLOSE_ELEMENT,
     CLOSE_ELEMENT,
+    PI_TARGET,
+    PI_DATA,
 ];
 
 /// Streams whose tokens hold what the sheet shows, or what it does not: both names, in place and
@@ -135,7 +139,7 @@ fn samples() -> Vec<Case> {
     cases
 }
 
-/// Lists of up to two tokens; of three after an open one, and of four after a start.
+/// Lists of up to two tokens; of three after an open one, and of four after a start; and what may stand around the root.
 fn short_lists() -> Vec<Case> {
     let mut cases = Vec::new();
     let mut put = |front: &[u8], length: usize| {
@@ -156,6 +160,23 @@ fn short_lists() -> Vec<Case> {
     put(&[OPEN, CLOSE_EMPTY], 1);
     put(&[OPEN, CLOSE_START, CLOSE_ELEMENT], 1);
     put(&[INSTANCE, INSTANCE], 1);
+    let pair = [PI_TARGET, PI_DATA];
+    put(&pair, 1);
+    for root in [&[INSTANCE][..], &[OPEN, CLOSE_EMPTY]] {
+        let led = [&pair, root].concat();
+        for front in [root, &led] {
+            put(&[front, &pair[..1]].concat(), 0);
+            put(&[front, &pair[..1]].concat(), 1);
+            put(&[front, &pair].concat(), 0);
+            put(&[front, &pair].concat(), 1);
+        }
+        put(&led, 0);
+        put(&led, 1);
+        // A second leading pair, and a second closing one.
+        put(&[&pair, &led[..]].concat(), 0);
+        put(&[root, &pair, &pair].concat(), 0);
+    }
+    put(&[PI_TARGET, PI_DATA, OPEN], 1);
     cases
 }
 
@@ -189,6 +210,9 @@ fn levels() -> Vec<Case> {
         put(&whole[..open]);
         put(&nested(levels, &[VALUE]));
         put(&[&whole[..open - 1], &[CLOSE_START], &whole[open..]].concat());
+        // A pair opens no level.
+        put(&[&[PI_TARGET, PI_DATA], &whole[..open]].concat());
+        put(&[&[PI_TARGET, PI_DATA], &whole[..], &[PI_TARGET, PI_DATA]].concat());
     }
     // Level 64 is opened twice.
     let twice = nested(63, &[OPEN, CLOSE_EMPTY, OPEN, CLOSE_EMPTY]);
@@ -209,6 +233,10 @@ fn rooms() -> Vec<Case> {
         &[OPEN, CLOSE_EMPTY],
         &[OPEN],
         &[VALUE, VALUE, VALUE],
+        &[PI_TARGET, PI_DATA],
+        &[PI_TARGET, PI_DATA, INSTANCE],
+        &[INSTANCE, PI_TARGET, PI_DATA],
+        &[PI_TARGET, PI_DATA, OPEN, CLOSE_EMPTY, PI_TARGET, PI_DATA],
         &EVERY_TOKEN,
     ] {
         cases.extend(calls(list));

@@ -1,6 +1,6 @@
-//! Document 01's grammar over lists of token kinds, and what follows from it by definition alone.
+//! Document 01's grammar over lists of token kinds, with document 02's request P4, and what follows from it by definition alone.
 //!
-//! The sentences of 'Grammar' are written down one by one, as a reader that lists every way in which
+//! The sentences of 'Grammar' and of P4 are written down one by one, as a reader that lists every way in which
 //! the tokens from a place on can be read. Each way is a tree, and owner table and levels are read
 //! off the tree. The refusals 13, 14 and 15 are decided by trying all continuations, so this is for
 //! short lists. The answers come from the machine in owners.rs, and the checks hold it to this.
@@ -12,11 +12,27 @@ use crate::oracle::kinds::{
 use crate::oracle::refusal::Refusal;
 use std::collections::BTreeSet;
 
-/// "A body is one instance or one element." A token in a tree is its number.
+/// "A body is from now on at most one target and data pair, then one instance or element, then at most
+/// one pair." A token in a tree is its number.
 #[derive(Debug, Clone)]
-pub enum Body {
-    Instance,
+pub struct Body {
+    leading: Option<Pair>,
+    root: Root,
+    closing: Option<Pair>,
+}
+
+/// "One instance or element."
+#[derive(Debug, Clone)]
+enum Root {
+    Instance(usize),
     Element(Element),
+}
+
+/// A "target and data pair".
+#[derive(Debug, Clone)]
+struct Pair {
+    target: usize,
+    data: usize,
 }
 
 /// "An element is an open token, any attributes, then" its end.
@@ -51,7 +67,7 @@ enum Part {
     Item(usize),
     Cdata(usize),
     Element(Element),
-    Pi { target: usize, data: usize },
+    Pi(Pair),
 }
 
 /// All ways to read something from a place on: each with the place after it.
@@ -59,14 +75,48 @@ type Ways<T> = Vec<(T, usize)>;
 
 /// Every way in which the whole list is a body.
 pub fn bodies(kinds: &[u8]) -> Vec<Body> {
-    let mut ways: Ways<Body> = Vec::new();
-    if kinds.first() == Some(&INSTANCE) {
-        ways.push((Body::Instance, 1));
+    let mut whole = Vec::new();
+    for (leading, after) in at_most_one_pair(kinds, 0) {
+        for (root, after) in roots(kinds, after) {
+            for (closing, after) in at_most_one_pair(kinds, after) {
+                if after == kinds.len() {
+                    whole.push(Body {
+                        leading: leading.clone(),
+                        root: root.clone(),
+                        closing,
+                    });
+                }
+            }
+        }
     }
-    let elements = elements(kinds, 0).into_iter();
-    ways.extend(elements.map(|(element, end)| (Body::Element(element), end)));
-    let whole = ways.into_iter().filter(|(_, end)| *end == kinds.len());
-    whole.map(|(body, _)| body).collect()
+    whole
+}
+
+fn roots(kinds: &[u8], at: usize) -> Ways<Root> {
+    let mut ways: Ways<Root> = Vec::new();
+    if kinds.get(at) == Some(&INSTANCE) {
+        ways.push((Root::Instance(at), at + 1));
+    }
+    let elements = elements(kinds, at).into_iter();
+    ways.extend(elements.map(|(element, end)| (Root::Element(element), end)));
+    ways
+}
+
+/// None is a way, and one is a way where it stands.
+fn at_most_one_pair(kinds: &[u8], at: usize) -> Ways<Option<Pair>> {
+    let mut ways = vec![(None, at)];
+    let pairs = pairs(kinds, at).into_iter();
+    ways.extend(pairs.map(|(pair, end)| (Some(pair), end)));
+    ways
+}
+
+/// "PI target directly followed by PI data."
+fn pairs(kinds: &[u8], at: usize) -> Ways<Pair> {
+    if kinds.get(at) != Some(&PI_TARGET) || kinds.get(at + 1) != Some(&PI_DATA) {
+        return Vec::new();
+    }
+    let (target, data) = (at, at + 1);
+    vec![(Pair { target, data }, at + 2)]
 }
 
 fn elements(kinds: &[u8], open: usize) -> Ways<Element> {
@@ -133,10 +183,8 @@ fn parts(kinds: &[u8], at: usize) -> Ways<Part> {
     }
     let elements = elements(kinds, at).into_iter();
     ways.extend(elements.map(|(element, end)| (Part::Element(element), end)));
-    if kinds.get(at) == Some(&PI_TARGET) && kinds.get(at + 1) == Some(&PI_DATA) {
-        let (target, data) = (at, at + 1);
-        ways.push((Part::Pi { target, data }, at + 2));
-    }
+    let pairs = pairs(kinds, at).into_iter();
+    ways.extend(pairs.map(|(pair, end)| (Part::Pi(pair), end)));
     ways
 }
 
@@ -158,9 +206,15 @@ impl Body {
     /// "The u32 owner table holds owner number plus 1, or 0."
     pub fn owners(&self, count: usize) -> Vec<u32> {
         let mut owners = vec![None; count];
+        // "Those outer tokens have no owner."
+        for pair in [&self.leading, &self.closing].into_iter().flatten() {
+            owners[pair.target] = None;
+            owners[pair.data] = None;
+        }
         // "Root and instance have no owner."
-        if let Body::Element(element) = self {
-            element.owners(&mut owners);
+        match &self.root {
+            Root::Instance(instance) => owners[*instance] = None,
+            Root::Element(element) => element.owners(&mut owners),
         }
         let word = |owner: Option<usize>| owner.map_or(0, |owner| owner as u32 + 1);
         owners.into_iter().map(word).collect()
@@ -169,7 +223,7 @@ impl Body {
     /// The level of each element by its open token: "the root is level 1".
     pub fn levels(&self) -> Vec<(usize, usize)> {
         let mut levels = Vec::new();
-        if let Body::Element(element) = self {
+        if let Root::Element(element) = &self.root {
             element.levels(1, &mut levels);
         }
         levels
@@ -204,7 +258,7 @@ impl Element {
                 for part in content {
                     match part {
                         Part::Item(token) | Part::Cdata(token) => ours.push(*token),
-                        Part::Pi { target, data } => ours.extend([*target, *data]),
+                        Part::Pi(pair) => ours.extend([pair.target, pair.data]),
                         Part::Element(child) => {
                             ours.push(child.open);
                             child.owners(owners);
@@ -232,9 +286,10 @@ impl Element {
 
 /// With how many more tokens `count` of them are a body, if some body begins with them: one for each
 /// element that is open, and PI data after a last PI target. An open token and a close start stand
-/// before each of these but the first, so it is half the tokens, rounded up; a first token is one.
+/// before each of these but the first, so it is half the tokens, rounded up. Where the root is to come, it is one for it
+/// and one for the data after a leading target: two.
 pub fn enough(count: usize) -> usize {
-    count.div_ceil(2).max(1)
+    count.div_ceil(2).max(2)
 }
 
 /// Hands to `each` the bodies that begin with `kinds` and have up to `more` tokens of the alphabet

@@ -18,13 +18,23 @@ pub const MOST_LEVELS: usize = 64;
 /// Where in a body the next token stands.
 #[derive(Clone, Copy)]
 enum Place {
-    Before,
+    /// Before the first token.
+    First,
+    /// After a leading pair's target.
+    LeadingTarget,
+    /// After a leading pair.
+    Root,
     /// In an element's start, directly in it or in the attribute of this number.
     Start(Option<usize>),
     Content,
-    /// After a PI target.
+    /// After a PI target in content.
     Target,
+    /// After the root.
     After,
+    /// After a closing pair's target.
+    ClosingTarget,
+    /// After a closing pair.
+    End,
 }
 
 /// The owner table of a body with so many levels at most, or the refusal 13, 14 or 15.
@@ -32,13 +42,15 @@ pub fn owners(kinds: &[u8], most_levels: usize) -> Result<Vec<u32>, Refusal> {
     let mut table = Vec::with_capacity(kinds.len());
     // The open tokens of the elements that are not closed yet.
     let mut open: Vec<usize> = Vec::new();
-    let mut place = Place::Before;
+    let mut place = Place::First;
     for (number, &kind) in kinds.iter().enumerate() {
         let refused = |refusal| Refusal::new(refusal, number as u64);
         let mut owner = open.last().copied();
         place = match (place, kind) {
-            (Place::Before, INSTANCE) => Place::After,
-            (Place::Before | Place::Content, OPEN) => {
+            (Place::First, PI_TARGET) => Place::LeadingTarget,
+            (Place::LeadingTarget, PI_DATA) => Place::Root,
+            (Place::First | Place::Root, INSTANCE) => Place::After,
+            (Place::First | Place::Root | Place::Content, OPEN) => {
                 if open.len() == most_levels {
                     return Err(refused(14));
                 }
@@ -63,12 +75,14 @@ pub fn owners(kinds: &[u8], most_levels: usize) -> Result<Vec<u32>, Refusal> {
             (Place::Content, item) if ITEMS.contains(&item) => Place::Content,
             (Place::Content, PI_TARGET) => Place::Target,
             (Place::Target, PI_DATA) => Place::Content,
+            (Place::After, PI_TARGET) => Place::ClosingTarget,
+            (Place::ClosingTarget, PI_DATA) => Place::End,
             _ => return Err(refused(13)),
         };
         table.push(owner.map_or(0, |owner| owner as u32 + 1));
     }
     match place {
-        Place::After => Ok(table),
+        Place::After | Place::End => Ok(table),
         _ => Err(Refusal::new(15, kinds.len() as u64)),
     }
 }

@@ -7,9 +7,9 @@ use native.Mathlib.Decide.{decLt}
 use lib.ListN.{length, getD, drop, drop-of-length-le, List·getD-eq-default}
 use lib.Seq.{drop-cons}
 use Rattle.body.specs.Grammar.{wide, Reading}
-use Rattle.body.specs.Reader.{State, begin, tag, inside, target, Out, accepted, refused, Step, move, stop, step, ended, outcome, wordsFrom}
+use Rattle.body.specs.Reader.{State, begin, root, tag, inside, done, target, Out, accepted, refused, Step, move, stop, step, ended, outcome, wordsFrom}
 use Rattle.body.proofs.Moves.{Move, Says, goes, wrong, deep, says, moves, higher, not-zero}
-use Rattle.body.proofs.Runs.{Run, over, next, body-run, run-body}
+use Rattle.body.proofs.Runs.{Over, after-root, after-closing, Run, over, next, body-run, run-body}
 
 -- after a step: what is left of the answer and of the words
 abbrev pub outcomeOn : ℕ → ℕ → List ℕ → Step → Out
@@ -54,16 +54,17 @@ pub words-end : (t : List ℕ) (limit n : ℕ) (s : State) → length t ≤ n �
 unfolding wordsFrom
 words-end t limit n s h = rw (drop-of-length-le t h)
 
-pub ended-over : (n : ℕ) → ended (inside []) n ≡ accepted
+pub ended-over : {s : State} (n : ℕ) → Over s → ended s n ≡ accepted
 unfolding ended
-ended-over n = refl
+ended-over n after-root = refl
+ended-over n after-closing = refl
 
 -- a run is read
 run-read : (t o : List ℕ) (limit : ℕ) {s : State} {n : ℕ} → length o ≡ length t → Run t o limit s n
     → (outcome limit s n (drop n t) ≡ accepted) × (wordsFrom limit s n (drop n t) ≡ drop n o)
-run-read t o limit {n = n} l (over e) = (
-  outcome-end t limit n (inside []) (omega arith) ∙ ended-over n,
-  words-end t limit n (inside []) (omega arith) ∙ sym (drop-of-length-le o {i = n} (omega arith)),
+run-read t o limit {s} {n} l (over h e) = (
+  outcome-end t limit n s (omega arith) ∙ ended-over n h,
+  words-end t limit n s (omega arith) ∙ sym (drop-of-length-le o {i = n} (omega arith)),
 )
 run-read t o limit {s} {n} l (next {s′ = s′} {w = w} m v r) =
     let h = there t limit n w s s′ m in
@@ -82,10 +83,12 @@ body-read limit t o r = run-read t o limit (r .each) (body-run t o limit (r .bod
 over-state : (t o : List ℕ) (limit n : ℕ) (s : State) → n ≡ length t → ended s n ≡ accepted → Run t o limit s n
 unfolding ended
 over-state t o limit n begin h e = let z : _≡_ {A = ℕ} 0 1 = cc in absurd (omega arith)
+over-state t o limit n root h e = let z : _≡_ {A = ℕ} 0 1 = cc in absurd (omega arith)
 over-state t o limit n (tag a w st) h e = let z : _≡_ {A = ℕ} 0 1 = cc in absurd (omega arith)
-over-state t o limit n (inside []) h e = over h
+over-state t o limit n (inside []) h e = over after-root h
 over-state t o limit n (inside (w ∷ st)) h e = let z : _≡_ {A = ℕ} 0 1 = cc in absurd (omega arith)
-over-state t o limit n (target w st) h e = let z : _≡_ {A = ℕ} 0 1 = cc in absurd (omega arith)
+over-state t o limit n done h e = over after-closing h
+over-state t o limit n (target w s) h e = let z : _≡_ {A = ℕ} 0 1 = cc in absurd (omega arith)
 
 pub outcome-nil : (limit n : ℕ) (s : State) → outcome limit s n [] ≡ ended s n
 unfolding outcome
@@ -136,7 +139,7 @@ read-body limit t e =
 
 -- a body within a limit is one within a higher limit
 run-higher : (t o : List ℕ) (l m : ℕ) {s : State} {n : ℕ} → l ≤ m → Run t o l s n → Run t o m s n
-run-higher t o l m h (over e) = over e
+run-higher t o l m h (over g e) = over g e
 run-higher t o l m h (next k v r) = next (higher m h k) v (run-higher t o l m h r)
 
 pub higher-reading : (l m : ℕ) (t o : List ℕ) → l ≤ m → Reading wide l t o → Reading wide m t o

@@ -11,22 +11,29 @@ use lib.ListN.{length}
 use Rattle.cursor.specs.Answer.{pick}
 use Rattle.cursor.proofs.Choice.{either}
 use Rattle.body.specs.Grammar.{OneOfFour, a-value, a-substitution, a-char-ref, an-entity-ref}
-use Rattle.body.specs.Reader.{State, begin, tag, inside, target, Out, accepted, refused, Step, move, stop, isItem, isLeaf, opening, step}
+use Rattle.body.specs.Reader.{State, begin, root, tag, inside, done, target, Out, accepted, refused, Step, move, stop, isItem, isLeaf, opening, rooted, step}
+
+-- the states in which the root may begin
+pub data Start : State → Type 0 where
+  at-first : Start begin
+  after-pair : Start root
 
 -- in the state s token n may be of the kind k; its word is then w, and s′ the state after it
 pub data Move (limit n k : ℕ) : State → ℕ → State → Type 0 where
-  m-instance : k ≡ 1 → Move limit n k begin 0 (inside [])
-  m-root : k ≡ 2 → 0 < limit → Move limit n k begin 0 (tag 0 (suc n) [])
+  m-leading : k ≡ 9 → Move limit n k begin 0 (target 0 root)
+  m-instance : {s : State} → Start s → k ≡ 1 → Move limit n k s 0 (inside [])
+  m-root : {s : State} → Start s → k ≡ 2 → 0 < limit → Move limit n k s 0 (tag 0 (suc n) [])
   m-attribute : {a w : ℕ} {st : List ℕ} → k ≡ 7 → Move limit n k (tag a w st) w (tag (suc n) w st)
   m-empty : {a w : ℕ} {st : List ℕ} → k ≡ 4 → Move limit n k (tag a w st) w (inside st)
   m-start : {a w : ℕ} {st : List ℕ} → k ≡ 3 → Move limit n k (tag a w st) w (inside (w ∷ st))
   m-tag-item : {a w : ℕ} {st : List ℕ} → OneOfFour k → (a ≡ 0 → ⊥) → Move limit n k (tag a w st) a (tag a w st)
   m-close : {w : ℕ} {st : List ℕ} → k ≡ 5 → Move limit n k (inside (w ∷ st)) w (inside st)
   m-child : {w : ℕ} {st : List ℕ} → k ≡ 2 → suc (length st) < limit → Move limit n k (inside (w ∷ st)) w (tag 0 (suc n) (w ∷ st))
-  m-target : {w : ℕ} {st : List ℕ} → k ≡ 9 → Move limit n k (inside (w ∷ st)) w (target w st)
+  m-target : {w : ℕ} {st : List ℕ} → k ≡ 9 → Move limit n k (inside (w ∷ st)) w (target w (inside (w ∷ st)))
   m-cdata : {w : ℕ} {st : List ℕ} → k ≡ 11 → Move limit n k (inside (w ∷ st)) w (inside (w ∷ st))
   m-item : {w : ℕ} {st : List ℕ} → OneOfFour k → Move limit n k (inside (w ∷ st)) w (inside (w ∷ st))
-  m-data : {w : ℕ} {st : List ℕ} → k ≡ 10 → Move limit n k (target w st) w (inside (w ∷ st))
+  m-closing : k ≡ 9 → Move limit n k (inside []) 0 (target 0 done)
+  m-data : {w : ℕ} {s : State} → k ≡ 10 → Move limit n k (target w s) w s
 
 -- a move is the step's answer
 module _ (limit n k : ℕ) (s : State) (w : ℕ) (s′ : State) where
@@ -53,8 +60,11 @@ opens limit w st n h = rw (lt-ltb (length st) limit h)
 
 pub moves : {limit n k w : ℕ} {s s′ : State} → Move limit n k s w s′ → step limit s n k ≡ move w s′
 unfolding step
-moves {limit} {n} {k} (m-instance e) = on-kind limit n k begin 0 (inside []) 1 refl e
-moves {limit} {n} {k} (m-root e h) = on-kind limit n k begin 0 (tag 0 (suc n) []) 2 (opens limit 0 [] n h) e
+moves {limit} {n} {k} (m-leading e) = on-kind limit n k begin 0 (target 0 root) 9 refl e
+moves {limit} {n} {k} (m-instance at-first e) = on-kind limit n k begin 0 (inside []) 1 refl e
+moves {limit} {n} {k} (m-instance after-pair e) = on-kind limit n k root 0 (inside []) 1 refl e
+moves {limit} {n} {k} (m-root at-first e h) = on-kind limit n k begin 0 (tag 0 (suc n) []) 2 (opens limit 0 [] n h) e
+moves {limit} {n} {k} (m-root after-pair e h) = on-kind limit n k root 0 (tag 0 (suc n) []) 2 (opens limit 0 [] n h) e
 moves {limit} {n} {k} (m-attribute {a} {w} {st} e) = on-kind limit n k (tag a w st) w (tag (suc n) w st) 7 refl e
 moves {limit} {n} {k} (m-empty {a} {w} {st} e) = on-kind limit n k (tag a w st) w (inside st) 4 refl e
 moves {limit} {n} {k} (m-start {a} {w} {st} e) = on-kind limit n k (tag a w st) w (inside (w ∷ st)) 3 refl e
@@ -62,15 +72,17 @@ moves {limit} {n} {k} (m-tag-item {a} {w} {st} i h) = item-in-tag limit n k a w 
 moves {limit} {n} {k} (m-close {w} {st} e) = on-kind limit n k (inside (w ∷ st)) w (inside st) 5 refl e
 moves {limit} {n} {k} (m-child {w} {st} e h) =
     on-kind limit n k (inside (w ∷ st)) w (tag 0 (suc n) (w ∷ st)) 2 (opens limit w (w ∷ st) n h) e
-moves {limit} {n} {k} (m-target {w} {st} e) = on-kind limit n k (inside (w ∷ st)) w (target w st) 9 refl e
+moves {limit} {n} {k} (m-target {w} {st} e) = on-kind limit n k (inside (w ∷ st)) w (target w (inside (w ∷ st))) 9 refl e
 moves {limit} {n} {k} (m-cdata {w} {st} e) = on-kind limit n k (inside (w ∷ st)) w (inside (w ∷ st)) 11 refl e
 moves {limit} {n} {k} (m-item {w} {st} i) = item-inside limit n k w st i
-moves {limit} {n} {k} (m-data {w} {st} e) = on-kind limit n k (target w st) w (inside (w ∷ st)) 10 refl e
+moves {limit} {n} {k} (m-closing e) = on-kind limit n k (inside []) 0 (target 0 done) 9 refl e
+moves {limit} {n} {k} (m-data {w} {s} e) = on-kind limit n k (target w s) w s 10 refl e
 
 -- a higher limit allows as much
 pub higher : {l n k w : ℕ} {s s′ : State} (m : ℕ) → l ≤ m → Move l n k s w s′ → Move m n k s w s′
-higher m h (m-instance e) = m-instance e
-higher m h (m-root e g) = m-root e (omega arith)
+higher m h (m-leading e) = m-leading e
+higher m h (m-instance b e) = m-instance b e
+higher m h (m-root b e g) = m-root b e (omega arith)
 higher m h (m-attribute e) = m-attribute e
 higher m h (m-empty e) = m-empty e
 higher m h (m-start e) = m-start e
@@ -80,6 +92,7 @@ higher m h (m-child {st = st} e g) = m-child {st = st} e (omega arith)
 higher m h (m-target e) = m-target e
 higher m h (m-cdata e) = m-cdata e
 higher m h (m-item i) = m-item i
+higher m h (m-closing e) = m-closing e
 higher m h (m-data e) = m-data e
 
 -- no token is of the kind 0
@@ -90,8 +103,9 @@ item-not-zero a-char-ref e = omega arith
 item-not-zero an-entity-ref e = omega arith
 
 pub not-zero : {l n k w : ℕ} {s s′ : State} → Move l n k s w s′ → k ≡ 0 → ⊥
-not-zero (m-instance e) z = omega arith
-not-zero (m-root e h) z = omega arith
+not-zero (m-leading e) z = omega arith
+not-zero (m-instance b e) z = omega arith
+not-zero (m-root b e h) z = omega arith
 not-zero (m-attribute e) z = omega arith
 not-zero (m-empty e) z = omega arith
 not-zero (m-start e) z = omega arith
@@ -101,19 +115,24 @@ not-zero (m-child e h) z = omega arith
 not-zero (m-target e) z = omega arith
 not-zero (m-cdata e) z = omega arith
 not-zero (m-item i) z = item-not-zero i z
+not-zero (m-closing e) z = omega arith
 not-zero (m-data e) z = omega arith
 
 -- how many elements are open
-abbrev pub depth : State → ℕ
+unfoldable pub depth : State → ℕ
 depth begin = 0
+depth root = 0
 depth (tag a w st) = suc (length st)
 depth (inside st) = length st
-depth (target w st) = suc (length st)
+depth done = 0
+depth (target w s) = depth s
 
 -- within the limit it stays within the limit
 pub shallow : {l n k w : ℕ} {s s′ : State} → Move l n k s w s′ → depth s ≤ l → depth s′ ≤ l
-shallow (m-instance e) d = omega arith
-shallow (m-root e h) d = omega arith
+unfolding depth
+shallow (m-leading e) d = d
+shallow (m-instance b e) d = omega arith
+shallow (m-root b e h) d = omega arith
 shallow (m-attribute e) d = d
 shallow (m-empty e) d = omega arith
 shallow (m-start e) d = d
@@ -123,6 +142,7 @@ shallow (m-child e h) d = omega arith
 shallow (m-target e) d = d
 shallow (m-cdata e) d = d
 shallow (m-item i) d = d
+shallow (m-closing e) d = d
 shallow (m-data e) d = d
 
 -- what a step's answer says
@@ -174,11 +194,15 @@ leaf-tested P k x y f h g =
     (λ e. ⊎-elim (λ c. f (eqb-true k 11 c)) (λ i. h (is-item k i)) (or-true (eqb k 11) (isItem k) e))
     (λ e. g (λ c. or-false-left (eqb k 11) (isItem k) e (eq-eqb k 11 c)) (no-item k (or-false-right (eqb k 11) (isItem k) e)))
 
+no-start : Start done → ⊥
+no-start = elim [ ]
+
 -- where a state has no move
 module _ (l n k : ℕ) where
-  at-begin : (w : ℕ) (s′ : State) → (k ≡ 2 → ⊥) → (k ≡ 1 → ⊥) → Move l n k begin w s′ → ⊥
-  at-begin w s′ a b (m-instance e) = b e
-  at-begin w s′ a b (m-root e h) = a e
+  at-start : (w : ℕ) (s s′ : State) → Start s → (s ≡ begin → k ≡ 9 → ⊥) → (k ≡ 2 → ⊥) → (k ≡ 1 → ⊥) → Move l n k s w s′ → ⊥
+  at-start w s s′ h c a b (m-leading e) = c refl e
+  at-start w s s′ h c a b (m-instance g e) = b e
+  at-start w s s′ h c a b (m-root g e o) = a e
 
   in-tag : (w : ℕ) (s′ : State) (a v : ℕ) (st : List ℕ) → (k ≡ 7 → ⊥) → (k ≡ 4 → ⊥) → (k ≡ 3 → ⊥) → (OneOfFour k → (a ≡ 0 → ⊥) → ⊥) → Move l n k (tag a v st) w s′ → ⊥
   in-tag w s′ a v st x y z i (m-attribute e) = x e
@@ -193,11 +217,15 @@ module _ (l n k : ℕ) where
   in-content w s′ v st a b c d i (m-cdata e) = d e
   in-content w s′ v st a b c d i (m-item e) = i e
 
-  after-body : (w : ℕ) (s′ : State) → Move l n k (inside []) w s′ → ⊥
-  after-body w s′ = elim [ ]
+  after-root : (w : ℕ) (s′ : State) → (k ≡ 9 → ⊥) → Move l n k (inside []) w s′ → ⊥
+  after-root w s′ a (m-closing e) = a e
 
-  after-target : (w : ℕ) (s′ : State) (v : ℕ) (st : List ℕ) → (k ≡ 10 → ⊥) → Move l n k (target v st) w s′ → ⊥
-  after-target w s′ v st a (m-data e) = a e
+  at-done : (w : ℕ) (s′ : State) → Move l n k done w s′ → ⊥
+  at-done w s′ (m-instance b e) = no-start b
+  at-done w s′ (m-root b e h) = no-start b
+
+  after-target : (w : ℕ) (s s′ : State) (v : ℕ) → (k ≡ 10 → ⊥) → Move l n k (target v s) w s′ → ⊥
+  after-target w s s′ v a (m-data e) = a e
 
 opening-says : (limit n k w : ℕ) (s : State) (st : List ℕ) → k ≡ 2 → depth s ≡ length st → ((l : ℕ) → length st < l → Move l n k s w (tag 0 (suc n) st))
     → Says limit n k s (opening limit w st n)
@@ -207,13 +235,21 @@ opening-says limit n k w s st e d f =
     (λ h. goes w (tag 0 (suc n) st) (f limit (ltb-true (length st) limit h)))
     (λ h. deep w (tag 0 (suc n) st) e (λ g. f (suc limit) (omega arith)))
 
+root-not-begin : root ≡ begin → ⊥
+root-not-begin e = let z : _≡_ {A = ℕ} 0 1 = cc in omega arith
+
+rooted-says : (limit n k : ℕ) (s : State) → Start s → depth s ≡ 0 → (s ≡ begin → k ≡ 9 → ⊥) → Says limit n k s (rooted limit n k)
+rooted-says limit n k s h d c =
+    let P = Says limit n k s in
+    tested P k 2 _ _ (λ e. opening-says limit n k 0 s [] e d (λ l o. m-root h e o))
+    (λ a. tested P k 1 _ _ (λ e. goes _ _ (m-instance h e))
+    (λ b. wrong (λ l w s′. at-start l n k w s s′ h c a b)))
+
 pub says : (limit n k : ℕ) (s : State) → Says limit n k s (step limit s n k)
-unfolding step
+unfolding step depth
 says limit n k begin =
-    let P = Says limit n k begin in
-    tested P k 2 _ _ (λ e. opening-says limit n k 0 begin [] e refl (λ l h. m-root e h))
-    (λ a. tested P k 1 _ _ (λ e. goes _ _ (m-instance e))
-    (λ b. wrong (λ l w s′. at-begin l n k w s′ a b)))
+    tested (Says limit n k begin) k 9 _ _ (λ e. goes _ _ (m-leading e)) (λ c. rooted-says limit n k begin at-first refl (λ z. c))
+says limit n k root = rooted-says limit n k root after-pair refl (λ z e. root-not-begin z)
 says limit n k (tag a v st) =
     let P = Says limit n k (tag a v st) in
     tested P k 7 _ _ (λ e. goes _ _ (m-attribute e))
@@ -222,7 +258,8 @@ says limit n k (tag a v st) =
     (λ z. tested P a 0 _ _ (λ e. wrong (λ l w s′. in-tag l n k w s′ a v st x y z (λ i h. h e)))
     (λ h. item-tested P k _ _ (λ i. goes _ _ (m-tag-item i h))
     (λ i. wrong (λ l w s′. in-tag l n k w s′ a v st x y z (λ j g. i j)))))))
-says limit n k (inside []) = wrong (λ l w s′. after-body l n k w s′)
+says limit n k (inside []) =
+    tested (Says limit n k (inside [])) k 9 _ _ (λ e. goes _ _ (m-closing e)) (λ a. wrong (λ l w s′. after-root l n k w s′ a))
 says limit n k (inside (v ∷ st)) =
     let P = Says limit n k (inside (v ∷ st)) in
     tested P k 5 _ _ (λ e. goes _ _ (m-close e))
@@ -230,5 +267,6 @@ says limit n k (inside (v ∷ st)) =
     (λ b. tested P k 9 _ _ (λ e. goes _ _ (m-target e))
     (λ c. leaf-tested P k _ _ (λ e. goes _ _ (m-cdata e)) (λ i. goes _ _ (m-item i))
     (λ d i. wrong (λ l w s′. in-content l n k w s′ v st a b c d i)))))
-says limit n k (target v st) =
-    tested (Says limit n k (target v st)) k 10 _ _ (λ e. goes _ _ (m-data e)) (λ a. wrong (λ l w s′. after-target l n k w s′ v st a))
+says limit n k done = wrong (λ l w s′. at-done l n k w s′)
+says limit n k (target v s) =
+    tested (Says limit n k (target v s)) k 10 _ _ (λ e. goes _ _ (m-data e)) (λ a. wrong (λ l w s′. after-target l n k w s s′ v a))

@@ -8,8 +8,9 @@ use lib.ListN.{length, getD, take, drop}
 use lib.Seq.{take-all, take-suc}
 use Rattle.body.specs.Grammar.{wide}
 use Rattle.body.specs.Verdict.{Begins, NoBody, TooDeep, Unfinished, Refuses, no-body, too-deep, unfinished-body}
-use Rattle.body.specs.Reader.{State, begin, tag, inside, target, Out, accepted, refused, Step, move, stop, step, ended, outcome, wordsFrom}
-use Rattle.body.proofs.Moves.{Move, m-instance, m-empty, m-close, m-data, Says, goes, wrong, deep, says, moves, higher, depth, shallow}
+use Rattle.body.specs.Reader.{State, begin, root, tag, inside, done, target, Out, accepted, refused, Step, move, stop, step, ended, outcome, wordsFrom}
+use Rattle.body.proofs.Moves.{at-first, after-pair, Move, m-instance, m-empty, m-close, m-data, Says, goes, wrong, deep, says, moves, higher, depth, shallow}
+use Rattle.body.proofs.Runs.{after-root, after-closing}
 use Rattle.body.proofs.Agree.{outcomeOn, outcome-on, outcome-nil, ended-over, not-accepted, body-read, read-body, higher-reading}
 
 -- tokens that finish a body: every open tag and element is closed
@@ -17,27 +18,33 @@ unfoldable closeAll : List ℕ → List ℕ
 closeAll [] = []
 closeAll (w ∷ st) = 5 ∷ closeAll st
 
-abbrev closing : State → List ℕ
+unfoldable closing : State → List ℕ
 closing begin = 1 ∷ []
+closing root = 1 ∷ []
 closing (tag a w st) = 4 ∷ closeAll st
 closing (inside st) = closeAll st
-closing (target w st) = 10 ∷ closeAll (w ∷ st)
+closing done = []
+closing (target w s) = 10 ∷ closing s
 
 all-closed : (limit : ℕ) (st : List ℕ) (n : ℕ) → outcome limit (inside st) n (closeAll st) ≡ accepted
 unfolding closeAll
-all-closed limit [] n = outcome-nil limit n (inside []) ∙ ended-over n
+all-closed limit [] n = outcome-nil limit n (inside []) ∙ ended-over n after-root
 all-closed limit (w ∷ st) n =
     outcome-on limit (inside (w ∷ st)) n 5 (closeAll st) (move w (inside st)) (moves (m-close refl)) ∙ all-closed limit st (suc n)
 
 -- in every state some tokens finish the body
 finish : (limit : ℕ) (s : State) (n : ℕ) → outcome limit s n (closing s) ≡ accepted
+unfolding closing
 finish limit begin n =
-    outcome-on limit begin n 1 [] (move 0 (inside [])) (moves (m-instance refl)) ∙ outcome-nil limit (suc n) (inside []) ∙ ended-over (suc n)
+    outcome-on limit begin n 1 [] (move 0 (inside [])) (moves (m-instance at-first refl)) ∙ outcome-nil limit (suc n) (inside []) ∙ ended-over (suc n) after-root
+finish limit root n =
+    outcome-on limit root n 1 [] (move 0 (inside [])) (moves (m-instance after-pair refl)) ∙ outcome-nil limit (suc n) (inside []) ∙ ended-over (suc n) after-root
 finish limit (tag a w st) n =
     outcome-on limit (tag a w st) n 4 (closeAll st) (move w (inside st)) (moves (m-empty refl)) ∙ all-closed limit st (suc n)
 finish limit (inside st) n = all-closed limit st n
-finish limit (target w st) n =
-    outcome-on limit (target w st) n 10 (closeAll (w ∷ st)) (move w (inside (w ∷ st))) (moves (m-data refl)) ∙ all-closed limit (w ∷ st) (suc n)
+finish limit done n = outcome-nil limit n done ∙ ended-over n after-closing
+finish limit (target w s) n =
+    outcome-on limit (target w s) n 10 (closing s) (move w s) (moves (m-data refl)) ∙ finish limit s (suc n)
 
 -- why the reader refuses, `read` tokens on
 data Why (limit : ℕ) (ks : List ℕ) (read : ℕ) (s : State) (place : ℕ) : ℕ → Type 0 where
@@ -72,13 +79,15 @@ here limit s n ks number y = record { read = 0; state = s; at = omega arith; sam
 ended-told : (limit : ℕ) (s : State) (n number place : ℕ) → ended s n ≡ refused number place → Told limit s n [] number place
 unfolding ended
 ended-told limit begin n number place e = moved limit begin n [] 15 n number place e (here limit begin n [] 15 (is-ended refl refl))
+ended-told limit root n number place e = moved limit root n [] 15 n number place e (here limit root n [] 15 (is-ended refl refl))
 ended-told limit (tag a w st) n number place e =
     moved limit (tag a w st) n [] 15 n number place e (here limit (tag a w st) n [] 15 (is-ended refl refl))
 ended-told limit (inside []) n number place e = let z : _≡_ {A = ℕ} 0 1 = cc in absurd (omega arith)
 ended-told limit (inside (w ∷ st)) n number place e =
     moved limit (inside (w ∷ st)) n [] 15 n number place e (here limit (inside (w ∷ st)) n [] 15 (is-ended refl refl))
-ended-told limit (target w st) n number place e =
-    moved limit (target w st) n [] 15 n number place e (here limit (target w st) n [] 15 (is-ended refl refl))
+ended-told limit done n number place e = let z : _≡_ {A = ℕ} 0 1 = cc in absurd (omega arith)
+ended-told limit (target w s) n number place e =
+    moved limit (target w s) n [] 15 n number place e (here limit (target w s) n [] 15 (is-ended refl refl))
 
 module _ (limit : ℕ) (s : State) (n k : ℕ) (ks : List ℕ) (number place : ℕ) (d : depth s ≤ limit) where
   told-on : (x : Step) → Says limit n k s x → step limit s n k ≡ x → outcomeOn limit n ks x ≡ refused number place
@@ -170,6 +179,7 @@ module _ (t : List ℕ) (number place : ℕ) (r : Told 64 begin 0 t number place
       }))
 
 pub refuses-right : (t : List ℕ) (number place : ℕ) → outcome 64 begin 0 t ≡ refused number place → Refuses t number place
+unfolding depth
 refuses-right t number place e =
     let r = told 64 t begin 0 number place (omega arith) e in
     let p : r .read ≡ place = omega (arith, r .at) in

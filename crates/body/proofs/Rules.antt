@@ -10,7 +10,7 @@ use lib.Dec.{eqb, ltb}
 use lib.ListN.{length, getD, List·getD-eq-default}
 use Rattle.tokens.specs.Token.{openKind, attributeKind}
 use Rattle.body.specs.Grammar as g
-use Rattle.body.specs.Grammar.{kindOf, Rule, wide, OneOfFour, a-value, a-substitution, a-char-ref, an-entity-ref, Stands, Items, Attributes, attribute, Tag, Element, empty, full, Content, cdata, instruction, child, Body, an-instance, an-element, Reading}
+use Rattle.body.specs.Grammar.{kindOf, Rule, wide, OneOfFour, a-value, a-substitution, a-char-ref, an-entity-ref, Stands, Items, Attributes, attribute, Tag, Element, empty, full, Content, cdata, instruction, child, Root, an-instance, an-element, AtMostOnePair, no-pair, a-pair, Body, parts, Reading}
 
 no-open : {k : ℕ} → OneOfFour k → k ≡ openKind → ⊥
 no-open a-value e = omega arith
@@ -40,6 +40,11 @@ module _ (t o : List ℕ) where
   attributes-not-open {i = i} (attribute {m = m} k items c) n l h e =
       first-or-after i n l (λ q. not-open k (λ z. omega arith) q e)
       (λ q. before-or-not n m (λ b. items-not-open items n q b e) (λ b. attributes-not-open c n b h e))
+
+  pair-not-open : {i j : ℕ} → AtMostOnePair t o i j → (n : ℕ) → i ≤ n → n < j → kindOf (getD t n 0) ≡ openKind → ⊥
+  pair-not-open no-pair n l h e = omega arith
+  pair-not-open {i = i} (a-pair k d) n l h e =
+      first-or-after i n l (λ q. not-open k (λ z. omega arith) q e) (λ q. not-open d (λ z. omega arith) (omega arith) e)
 
   -- spans go forward
   items-on : {w i j : ℕ} → Items t o w i j → i ≤ j
@@ -113,9 +118,14 @@ module _ (t o : List ℕ) where
           (λ q. first-or-after (suc i) n q (λ u e. absurd (not-open d (λ z. omega arith) u e)) (λ u. content-keeps c n u h))
       content-keeps (child {m = m} x c) n b h = before-or-not n m (λ q. element-keeps x n b q) (λ q. content-keeps c n q h)
 
+    root-keeps : {i j : ℕ} → Root t o rule limit i j → (n : ℕ) → i ≤ n → n < j → Keeps n
+    root-keeps (an-instance k) n b h = λ e. absurd (not-open k (λ z. omega arith) (omega arith) e)
+    root-keeps (an-element x) n b h = element-keeps x n b h
+
     body-keeps : {i j : ℕ} → Body t o rule limit i j → (n : ℕ) → i ≤ n → n < j → Keeps n
-    body-keeps (an-instance k) n b h = λ e. absurd (not-open k (λ z. omega arith) (omega arith) e)
-    body-keeps (an-element x) n b h = element-keeps x n b h
+    body-keeps (parts {a = a} {b = m} l x c) n b h =
+        before-or-not n a (λ q e. absurd (pair-not-open l n b q e))
+        (λ q. before-or-not n m (λ r. root-keeps x n q r) (λ r e. absurd (pair-not-open c n r h e)))
 
     -- and where each open token keeps the rule, a body by the wide rule is one by it
     module _ (keeps : (n : ℕ) → Keeps n) where
@@ -139,13 +149,19 @@ module _ (t o : List ℕ) where
         content-own (instruction k d c) = instruction k d (content-own c)
         content-own (child x c) = child (element-own x) (content-own c)
 
+      root-own : {i j : ℕ} → Root t o wide limit i j → Root t o rule limit i j
+      root-own (an-instance k) = an-instance k
+      root-own (an-element x) = an-element (element-own x)
+
       body-own : {i j : ℕ} → Body t o wide limit i j → Body t o rule limit i j
-      body-own (an-instance k) = an-instance k
-      body-own (an-element x) = an-element (element-own x)
+      body-own (parts l x c) = parts l (root-own x) c
+
+    root-wide : {i j : ℕ} → Root t o rule limit i j → Root t o wide limit i j
+    root-wide (an-instance k) = an-instance k
+    root-wide (an-element x) = an-element (element-wide x)
 
     body-wide : {i j : ℕ} → Body t o rule limit i j → Body t o wide limit i j
-    body-wide (an-instance k) = an-instance k
-    body-wide (an-element x) = an-element (element-wide x)
+    body-wide (parts l x c) = parts l (root-wide x) c
 
     pub reading-wide : Reading rule limit t o → Reading wide limit t o
     reading-wide r = record { each = r .each; body = body-wide (r .body) }

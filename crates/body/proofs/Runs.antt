@@ -5,14 +5,19 @@ use Prim.Native.Nat.{ℕ, suc, _≤_, _<_}
 use native.Mathlib.Omega.{arith}
 use lib.ListN.{length, getD}
 use Rattle.body.specs.Grammar as g
-use Rattle.body.specs.Grammar.{wide, OneOfFour, Stands, Items, Attributes, attribute, Tag, Element, empty, full, Content, cdata, instruction, child, Body, an-instance, an-element}
-use Rattle.body.specs.Reader.{State, begin, tag, inside, target}
-use Rattle.body.proofs.Moves.{Move, m-instance, m-root, m-attribute, m-empty, m-start, m-tag-item, m-close, m-child, m-target, m-cdata, m-item, m-data}
+use Rattle.body.specs.Grammar.{wide, OneOfFour, Stands, Items, Attributes, attribute, Tag, Element, empty, full, Content, cdata, instruction, child, Root, an-instance, an-element, AtMostOnePair, no-pair, a-pair, Body, parts}
+use Rattle.body.specs.Reader.{State, begin, root, tag, inside, done, target}
+use Rattle.body.proofs.Moves.{Start, at-first, after-pair, Move, m-leading, m-instance, m-root, m-attribute, m-empty, m-start, m-tag-item, m-close, m-child, m-target, m-cdata, m-item, m-closing, m-data}
+
+-- the states in which a body is over
+pub data Over : State → Type 0 where
+  after-root : Over (inside [])
+  after-closing : Over done
 
 module _ (t o : List ℕ) (limit : ℕ) where
   -- from the state s, token n and all after it may stand, with the table's words, and the body is over where the tokens end
   pub data Run : State → ℕ → Type 0 where
-    over : {n : ℕ} → n ≡ length t → Run (inside []) n
+    over : {s : State} {n : ℕ} → Over s → n ≡ length t → Run s n
     next : {s s′ : State} {n w : ℕ} → Move limit n (getD t n 0) s w s′ → getD o n 0 ≡ w → Run s′ (suc n) → Run s n
 
   item-here : {i k w : ℕ} → OneOfFour k → Stands t o i k w → OneOfFour (getD t i 0)
@@ -52,17 +57,30 @@ module _ (t o : List ℕ) (limit : ℕ) where
     content-run (child {w = w} x c) st e r =
         element-run x (inside (w ∷ st)) (w ∷ st) (ap suc e) (λ k h. m-child k h) (content-run c st e r)
 
+  closing-run : {i j : ℕ} → AtMostOnePair t o i j → j ≡ length t → Run (inside []) i
+  closing-run no-pair e = over after-root e
+  closing-run (a-pair k d) e = next (m-closing (k .kind)) (k .word) (next (m-data (d .kind)) (d .word) (over after-closing e))
+
+  root-run : {i j : ℕ} → Root t o wide limit i j → (s : State) → Start s → Run (inside []) j → Run s i
+  root-run (an-instance k) s h r = next (m-instance h (k .kind)) (k .word) r
+  root-run (an-element x) s h r = element-run x s [] refl (λ k l. m-root h k l) r
+
+  leading-run : {i j : ℕ} → AtMostOnePair t o i j → ((s : State) → Start s → Run s j) → Run begin i
+  leading-run no-pair f = f begin at-first
+  leading-run (a-pair k d) f = next (m-leading (k .kind)) (k .word) (next (m-data (d .kind)) (d .word) (f root after-pair))
+
   pub body-run : {i j : ℕ} → Body t o wide limit i j → j ≡ length t → Run begin i
-  body-run (an-instance k) e = next (m-instance (k .kind)) (k .word) (over e)
-  body-run (an-element x) e = element-run x begin [] refl (λ k h. m-root k h) (over e)
+  body-run (parts l x c) e = leading-run l (λ s h. root-run x s h (closing-run c e))
 
   -- what is left of a body in a state: the rest of each element that is open, and then the end
   data Rest : State → ℕ → Type 0 where
-    at-begin : {i j : ℕ} → Body t o wide limit i j → j ≡ length t → Rest begin i
-    at-end : {n : ℕ} → n ≡ length t → Rest (inside []) n
+    at-begin : {i a b j : ℕ} → AtMostOnePair t o i a → Root t o wide limit a b → AtMostOnePair t o b j → j ≡ length t → Rest begin i
+    at-root : {i b j : ℕ} → Root t o wide limit i b → AtMostOnePair t o b j → j ≡ length t → Rest root i
+    at-end : {i j : ℕ} → AtMostOnePair t o i j → j ≡ length t → Rest (inside []) i
+    at-done : {n : ℕ} → n ≡ length t → Rest done n
     in-content : {w i j : ℕ} {st : List ℕ} → Content t o wide limit (suc (length st)) w i j → Stands t o j 5 w → Rest (inside st) (suc j)
         → Rest (inside (w ∷ st)) i
-    in-target : {w i : ℕ} {st : List ℕ} → Stands t o i 10 w → Rest (inside (w ∷ st)) (suc i) → Rest (target w st) i
+    in-target : {w i : ℕ} {s : State} → Stands t o i 10 w → Rest s (suc i) → Rest (target w s) i
     in-empty : {a w i m j : ℕ} {st : List ℕ} → Items t o a i m → (a ≡ 0 → i ≡ m) → Attributes t o w m j → Stands t o j 4 w
         → Rest (inside st) (suc j) → Rest (tag a w st) i
     in-full : {a w i m j : ℕ} {st : List ℕ} → Items t o a i m → (a ≡ 0 → i ≡ m) → Attributes t o w m j → Stands t o j 3 w
@@ -71,12 +89,26 @@ module _ (t o : List ℕ) (limit : ℕ) where
   whole-tag : {w i m j : ℕ} → Stands t o i 2 w → (_≡_ {A = ℕ} 0 0 → suc i ≡ m) → Attributes t o (suc i) m j → Tag t o wide w i j
   whole-tag {i = i} {j = j} k z c = record { opening = k; attributes = subst (λ (x : ℕ). Attributes t o (suc i) x j) (sym (z refl)) c; ruled = tt {0} }
 
-  root-rest : {n : ℕ} → Stands t o n 2 0 → 0 < limit → Rest (tag 0 (suc n) []) (suc n) → Rest begin n
-  root-rest k h (in-empty items z c close (at-end e)) = at-begin (an-element (empty {level = 1} (omega arith) (whole-tag k z c) close)) e
-  root-rest k h (in-full items z c start (in-content x close (at-end e))) = at-begin (an-element (full {level = 1} (omega arith) (whole-tag k z c) start x close)) e
+  -- a root, and what is left after it
+  start-rest : {n m j : ℕ} {s : State} → Start s → Root t o wide limit n m → AtMostOnePair t o m j → j ≡ length t → Rest s n
+  start-rest at-first x c e = at-begin no-pair x c e
+  start-rest after-pair x c e = at-root x c e
 
-  instance-rest : {n : ℕ} → Stands t o n 1 0 → Rest (inside []) (suc n) → Rest begin n
-  instance-rest k (at-end e) = at-begin (an-instance k) e
+  root-rest : {n : ℕ} {s : State} → Start s → Stands t o n 2 0 → 0 < limit → Rest (tag 0 (suc n) []) (suc n) → Rest s n
+  root-rest b k h (in-empty items z c close (at-end p e)) =
+      start-rest b (an-element (empty {level = 1} (omega arith) (whole-tag k z c) close)) p e
+  root-rest b k h (in-full items z c start (in-content x close (at-end p e))) =
+      start-rest b (an-element (full {level = 1} (omega arith) (whole-tag k z c) start x close)) p e
+
+  instance-rest : {n : ℕ} {s : State} → Start s → Stands t o n 1 0 → Rest (inside []) (suc n) → Rest s n
+  instance-rest b k (at-end p e) = start-rest b (an-instance k) p e
+
+  -- a pair before the root, and one after it
+  leading-rest : {n : ℕ} → Stands t o n 9 0 → Rest (target 0 root) (suc n) → Rest begin n
+  leading-rest k (in-target d (at-root x c e)) = at-begin (a-pair k d) x c e
+
+  closing-rest : {n : ℕ} → Stands t o n 9 0 → Rest (target 0 done) (suc n) → Rest (inside []) n
+  closing-rest k (in-target d (at-done e)) = at-end (a-pair k d) e
 
   attribute-rest : {a w n : ℕ} {st : List ℕ} → Stands t o n 7 w → Rest (tag (suc n) w st) (suc n) → Rest (tag a w st) n
   attribute-rest k (in-empty items z c close r) = in-empty g.Items.no-more (λ e. refl) (attribute k items c) close r
@@ -92,7 +124,7 @@ module _ (t o : List ℕ) (limit : ℕ) where
   child-rest {st = st} k h (in-full items z c start (in-content x close (in-content y end r))) =
       in-content (child (full {level = suc (suc (length st))} (omega arith) (whole-tag k z c) start x close) y) end r
 
-  target-rest : {w n : ℕ} {st : List ℕ} → Stands t o n 9 w → Rest (target w st) (suc n) → Rest (inside (w ∷ st)) n
+  target-rest : {w n : ℕ} {st : List ℕ} → Stands t o n 9 w → Rest (target w (inside (w ∷ st))) (suc n) → Rest (inside (w ∷ st)) n
   target-rest k (in-target d (in-content c close r)) = in-content (instruction k d c) close r
 
   cdata-rest : {w n : ℕ} {st : List ℕ} → Stands t o n 11 w → Rest (inside (w ∷ st)) (suc n) → Rest (inside (w ∷ st)) n
@@ -103,8 +135,9 @@ module _ (t o : List ℕ) (limit : ℕ) where
 
   -- a token, and what is left after it
   on-move : {s s′ : State} {n w : ℕ} → Move limit n (getD t n 0) s w s′ → getD o n 0 ≡ w → Rest s′ (suc n) → Rest s n
-  on-move (m-instance e) v r = instance-rest (record { kind = e; word = v }) r
-  on-move (m-root e h) v r = root-rest (record { kind = e; word = v }) h r
+  on-move (m-leading e) v r = leading-rest (record { kind = e; word = v }) r
+  on-move (m-instance b e) v r = instance-rest b (record { kind = e; word = v }) r
+  on-move (m-root b e h) v r = root-rest b (record { kind = e; word = v }) h r
   on-move (m-attribute e) v r = attribute-rest (record { kind = e; word = v }) r
   on-move (m-empty e) v r = in-empty g.Items.no-more (λ x. refl) g.Attributes.no-more (record { kind = e; word = v }) r
   on-move (m-start e) v r = in-full g.Items.no-more (λ x. refl) g.Attributes.no-more (record { kind = e; word = v }) r
@@ -114,14 +147,16 @@ module _ (t o : List ℕ) (limit : ℕ) where
   on-move (m-target e) v r = target-rest (record { kind = e; word = v }) r
   on-move (m-cdata e) v r = cdata-rest (record { kind = e; word = v }) r
   on-move (m-item i) v r = item-rest i (record { kind = refl; word = v }) r
+  on-move (m-closing e) v r = closing-rest (record { kind = e; word = v }) r
   on-move (m-data e) v r = in-target (record { kind = e; word = v }) r
 
   rest : {s : State} {n : ℕ} → Run s n → Rest s n
-  rest (over e) = at-end e
+  rest (over after-root e) = at-end no-pair e
+  rest (over after-closing e) = at-done e
   rest (next m v r) = on-move m v (rest r)
 
   begun : {i : ℕ} → Rest begin i → Body t o wide limit i (length t)
-  begun {i} (at-begin x e) = subst (λ (j : ℕ). Body t o wide limit i j) e x
+  begun {i} (at-begin l x c e) = subst (λ (j : ℕ). Body t o wide limit i j) e (parts l x c)
 
   pub run-body : {i : ℕ} → Run begin i → Body t o wide limit i (length t)
   run-body r = begun (rest r)

@@ -18,6 +18,18 @@ pub an-instance : Reading wide 64 (1 ∷ []) (0 ∷ [])
 unfolding step ended outcome wordsFrom
 an-instance = read-body 64 (1 ∷ []) refl
 
+-- a pair before the root, after it, and both: 9 and 10 PI target and data. The outer tokens have no owner
+pub pairs : Reading wide 64 (9 ∷ 10 ∷ 1 ∷ []) (0 ∷ 0 ∷ 0 ∷ []) × Reading wide 64 (1 ∷ 9 ∷ 10 ∷ []) (0 ∷ 0 ∷ 0 ∷ [])
+    × Reading wide 64 (9 ∷ 10 ∷ 1 ∷ 9 ∷ 10 ∷ []) (0 ∷ 0 ∷ 0 ∷ 0 ∷ 0 ∷ [])
+    × Reading wide 64 (9 ∷ 10 ∷ 2 ∷ 3 ∷ 9 ∷ 10 ∷ 5 ∷ 9 ∷ 10 ∷ []) (0 ∷ 0 ∷ 0 ∷ 3 ∷ 3 ∷ 3 ∷ 3 ∷ 0 ∷ 0 ∷ [])
+unfolding step opening ended outcome wordsFrom
+pairs = (
+  read-body 64 (9 ∷ 10 ∷ 1 ∷ []) refl,
+  read-body 64 (1 ∷ 9 ∷ 10 ∷ []) refl,
+  read-body 64 (9 ∷ 10 ∷ 1 ∷ 9 ∷ 10 ∷ []) refl,
+  read-body 64 (9 ∷ 10 ∷ 2 ∷ 3 ∷ 9 ∷ 10 ∷ 5 ∷ 9 ∷ 10 ∷ []) refl,
+)
+
 -- n elements, each in the one before: open, close start
 unfoldable pub levels : ℕ → List ℕ → List ℕ
 levels zero rest = rest
@@ -32,4 +44,20 @@ refusals = (
   refuses-right (levels 64 (2 ∷ [])) 14 128 refl,
   refuses-right [] 15 0 refl,
   refuses-right (2 ∷ 3 ∷ []) 15 2 refl,
+)
+
+-- "a lone pair is unfinished", a lone target too, and a closing one; "two leading pairs are refused 13 at the second target"; 13 for what is no
+-- data after a leading target, what is no root after a pair, and a token after the closing pair; a leading pair opens no level
+pub pair-refusals : Refuses (9 ∷ 10 ∷ []) 15 2 × Refuses (9 ∷ []) 15 1 × Refuses (1 ∷ 9 ∷ []) 15 2 × Refuses (9 ∷ 10 ∷ 9 ∷ 10 ∷ 1 ∷ []) 13 2
+    × Refuses (9 ∷ 1 ∷ []) 13 1 × Refuses (9 ∷ 10 ∷ 10 ∷ []) 13 2 × Refuses (1 ∷ 9 ∷ 10 ∷ 9 ∷ []) 13 3 × Refuses (9 ∷ 10 ∷ levels 64 (2 ∷ [])) 14 130
+unfolding step opening ended outcome levels
+pair-refusals = (
+  refuses-right (9 ∷ 10 ∷ []) 15 2 refl,
+  refuses-right (9 ∷ []) 15 1 refl,
+  refuses-right (1 ∷ 9 ∷ []) 15 2 refl,
+  refuses-right (9 ∷ 10 ∷ 9 ∷ 10 ∷ 1 ∷ []) 13 2 refl,
+  refuses-right (9 ∷ 1 ∷ []) 13 1 refl,
+  refuses-right (9 ∷ 10 ∷ 10 ∷ []) 13 2 refl,
+  refuses-right (1 ∷ 9 ∷ 10 ∷ 9 ∷ []) 13 3 refl,
+  refuses-right (9 ∷ 10 ∷ levels 64 (2 ∷ [])) 14 130 refl,
 )

@@ -15,7 +15,7 @@ use Rattle.cursor.specs.Refusals.{noBody, tooDeep, unfinished}
 use Rattle.cursor.proofs.Choice.{either}
 use Rattle.tokens.specs.Token.{instanceKind, openKind, closeStartKind, closeEmptyKind, closeElementKind, attributeKind, piTargetKind, piDataKind, valueKind, entityRefKind, charRefKind, substitutionKind}
 use Rattle.body.specs.Verdict.{deepest}
-use Rattle.body.specs.Reader.{State, begin, tag, inside, target, Out, accepted, refused, Step, move, stop, isOpen, isItem, isLeaf, opening, step, ended, outcome, wordsFrom, walk, further, tagFurther, resume, tagResume, onStep, opened, atEnd, wholeOf}
+use Rattle.body.specs.Reader.{State, begin, root, tag, inside, done, target, Out, accepted, refused, Step, move, stop, isOpen, isItem, isLeaf, opening, step, ended, outcome, wordsFrom, walk, further, tagFurther, resume, tagResume, onStep, opened, atEnd, wholeOf}
 use Rattle.body.specs.declared.reader.Read.{Read}
 use Rattle.body.specs.declared.reader.Read.the-variants as R
 use Rattle.body.specs.declared.reader.Tagged.{Tagged}
@@ -77,7 +77,7 @@ module _ (t : List ℕ) (n : ℕ) (table : List ℕ) where
   walk-stop : (s : State) (o : Out) → n < length t → step deepest s n (getD t n 0) ≡ stop o → (o, table) ≡ walk t s n table
   walk-stop s o h e = sym (walk-step s h ∙ ap (onStep t n table) e)
 
-  -- the end of the tokens in an open tag, in content, after a PI target, and before the first token
+  -- the end of the tokens in an open tag, in content, after a PI target, and before the root
   pub tag-ended : (a w : ℕ) (st : List ℕ) → length t ≤ n → (refused unfinished n, table) ≡ walk t (tag a w st) n table
   unfolding ended
   tag-ended a w st h = walk-ended (tag a w st) h
@@ -86,13 +86,18 @@ module _ (t : List ℕ) (n : ℕ) (table : List ℕ) where
   unfolding ended
   inside-ended w st h = walk-ended (inside (w ∷ st)) h
 
-  pub target-ended : (w : ℕ) (st : List ℕ) → length t ≤ n → (refused unfinished n, table) ≡ walk t (target w st) n table
+  pub target-ended : (w : ℕ) (s : State) → length t ≤ n → (refused unfinished n, table) ≡ walk t (target w s) n table
   unfolding ended
-  target-ended w st h = walk-ended (target w st) h
+  target-ended w s h = walk-ended (target w s) h
 
-  pub begin-ended : length t ≤ n → (refused unfinished n, table) ≡ walk t begin n table
+  pub root-ended : length t ≤ n → (refused unfinished n, table) ≡ walk t root n table
   unfolding ended
-  begin-ended h = walk-ended begin h
+  root-ended h = walk-ended root h
+
+  -- no token before the root: it begins there
+  pub begin-ended : length t ≤ n → walk t root n table ≡ walk t begin n table
+  unfolding ended
+  begin-ended h = sym (walk-ended root h) ∙ walk-ended begin h
 
   module _ (h : n < length t) where
     -- in an open tag: an attribute, an item with and without one before it, the close tokens, and any other token
@@ -159,11 +164,6 @@ module _ (t : List ℕ) (n : ℕ) (table : List ℕ) where
         walk-on (inside (w ∷ st)) (inside (w ∷ st)) w left h
         (rw (ne-eqb k closeElementKind (leaf-is-not k closeElementKind refl e), ne-eqb k openKind (leaf-is-not k openKind refl e), ne-eqb k piTargetKind (leaf-is-not k piTargetKind refl e), e)) l
 
-    pub inside-target : (w : ℕ) (st left : List ℕ) → getD t n 0 ≡ piTargetKind → left ≡ set table n w
-        → walk t (target w st) (n + 1) left ≡ walk t (inside (w ∷ st)) n table
-    unfolding step
-    inside-target w st left e l = walk-on (inside (w ∷ st)) (target w st) w left h (ap (step deepest (inside (w ∷ st)) n) e) l
-
     pub inside-other : (w : ℕ) (st : List ℕ) → (getD t n 0 ≡ closeElementKind → ⊥) → isOpen (getD t n 0) ≡ false → (getD t n 0 ≡ piTargetKind → ⊥)
         → isLeaf (getD t n 0) ≡ false → (refused noBody n, table) ≡ walk t (inside (w ∷ st)) n table
     unfolding step
@@ -172,28 +172,44 @@ module _ (t : List ℕ) (n : ℕ) (table : List ℕ) where
         walk-stop (inside (w ∷ st)) (refused noBody n) h
         (rw (ne-eqb k closeElementKind x, y, ne-eqb k piTargetKind z, e))
 
-    -- after a PI target
-    pub target-data : (w : ℕ) (st left : List ℕ) → getD t n 0 ≡ piDataKind → left ≡ set table n w
-        → walk t (inside (w ∷ st)) (n + 1) left ≡ walk t (target w st) n table
-    unfolding step
-    target-data w st left e l = walk-on (target w st) (inside (w ∷ st)) w left h (ap (step deepest (target w st) n) e) l
+    -- a PI target in a state where it may stand, and after it
+    pub pair-target : (w : ℕ) (s s′ : State) (left : List ℕ) → getD t n 0 ≡ piTargetKind → step deepest s n piTargetKind ≡ move w (target w s′)
+        → left ≡ set table n w → walk t (target w s′) (n + 1) left ≡ walk t s n table
+    pair-target w s s′ left e m l = walk-on s (target w s′) w left h (ap (step deepest s n) e ∙ m) l
 
-    pub target-other : (w : ℕ) (st : List ℕ) → (getD t n 0 ≡ piDataKind → ⊥) → (refused noBody n, table) ≡ walk t (target w st) n table
+    pub target-data : (w : ℕ) (left : List ℕ) (s : State) → getD t n 0 ≡ piDataKind → left ≡ set table n w
+        → walk t s (n + 1) left ≡ walk t (target w s) n table
     unfolding step
-    target-other w st x = walk-stop (target w st) (refused noBody n) h (rw (ne-eqb (getD t n 0) piDataKind x))
+    target-data w left s e l = walk-on (target w s) s w left h (ap (step deepest (target w s) n) e) l
 
-    -- the first token
-    pub begin-open : isOpen (getD t n 0) ≡ true → opened t n 0 [] table ≡ walk t begin n table
+    pub target-other : (w : ℕ) (s : State) → (getD t n 0 ≡ piDataKind → ⊥) → (refused noBody n, table) ≡ walk t (target w s) n table
     unfolding step
-    begin-open e = sym (walk-step begin h ∙ ap (λ (k : ℕ). onStep t n table (step deepest begin n k)) (eqb-true (getD t n 0) openKind e))
+    target-other w s x = walk-stop (target w s) (refused noBody n) h (rw (ne-eqb (getD t n 0) piDataKind x))
 
-    pub begin-instance : (left : List ℕ) → getD t n 0 ≡ instanceKind → left ≡ set table n 0 → walk t (inside []) (n + 1) left ≡ walk t begin n table
+    -- the first token is no target: the root begins there
+    pub begin-root : (getD t n 0 ≡ piTargetKind → ⊥) → walk t root n table ≡ walk t begin n table
     unfolding step
-    begin-instance left e l = walk-on begin (inside []) 0 left h (ap (step deepest begin n) e) l
+    begin-root x =
+        let e : step deepest begin n (getD t n 0) ≡ step deepest root n (getD t n 0) = rw (ne-eqb (getD t n 0) piTargetKind x) in
+        walk-step root h ∙ sym (walk-step begin h ∙ ap (onStep t n table) e)
 
-    pub begin-other : isOpen (getD t n 0) ≡ false → (getD t n 0 ≡ instanceKind → ⊥) → (refused noBody n, table) ≡ walk t begin n table
+    -- the root's first token
+    pub root-open : isOpen (getD t n 0) ≡ true → opened t n 0 [] table ≡ walk t root n table
     unfolding step
-    begin-other x y = walk-stop begin (refused noBody n) h (rw (x, ne-eqb (getD t n 0) instanceKind y))
+    root-open e = sym (walk-step root h ∙ ap (λ (k : ℕ). onStep t n table (step deepest root n k)) (eqb-true (getD t n 0) openKind e))
+
+    pub root-instance : (left : List ℕ) → getD t n 0 ≡ instanceKind → left ≡ set table n 0 → walk t (inside []) (n + 1) left ≡ walk t root n table
+    unfolding step
+    root-instance left e l = walk-on root (inside []) 0 left h (ap (step deepest root n) e) l
+
+    pub root-other : isOpen (getD t n 0) ≡ false → (getD t n 0 ≡ instanceKind → ⊥) → (refused noBody n, table) ≡ walk t root n table
+    unfolding step
+    root-other x y = walk-stop root (refused noBody n) h (rw (x, ne-eqb (getD t n 0) instanceKind y))
+
+    -- after the root: what is no target
+    pub over-other : (getD t n 0 ≡ piTargetKind → ⊥) → (refused noBody n, table) ≡ walk t (inside []) n table
+    unfolding step
+    over-other x = walk-stop (inside []) (refused noBody n) h (rw (ne-eqb (getD t n 0) piTargetKind x))
 
   -- an open token, below the elements of the stack: one level more, or too deep
   opened-on : (w : ℕ) (st left : List ℕ) → length st < deepest → left ≡ set table n w
@@ -212,29 +228,46 @@ module _ (t : List ℕ) (n : ℕ) (table : List ℕ) where
   unfolding opening
   opened-deep w st h = rw (le-ltb (length st) deepest h)
 
-  -- after the body
-  over-more : n < length t → (refused noBody n, table) ≡ walk t (inside []) n table
-  unfolding step
-  over-more h = walk-stop (inside []) (refused noBody n) h refl
-
-  over-ended : length t ≤ n → (accepted, table) ≡ walk t (inside []) n table
+  -- after the root, and after a closing pair
+  pub over-ended : length t ≤ n → (accepted, table) ≡ walk t (inside []) n table
   unfolding ended
   over-ended h = walk-ended (inside []) h
 
--- a PI target and its data
-pub instruction-read : (t : List ℕ) (n w : ℕ) (table mid left : List ℕ) (st : List ℕ) → n + 1 < length t → getD t n 0 ≡ piTargetKind → getD t (n + 1) 0 ≡ piDataKind
-    → mid ≡ set table n w → left ≡ set mid (n + 1) w → walk t (inside (w ∷ st)) (n + 2) left ≡ walk t (inside (w ∷ st)) n table
-instruction-read t n w table mid left st h e d m l =
-    let two : n + 2 ≡ n + 1 + 1 = omega arith in
-    ap (λ (i : ℕ). walk t (inside (w ∷ st)) i left) two
-    ∙ target-data t (n + 1) mid h w st left d l ∙ inside-target t n table (omega arith) w st mid e m
+  done-more : n < length t → (refused noBody n, table) ≡ walk t done n table
+  unfolding step
+  done-more h = walk-stop done (refused noBody n) h refl
 
--- nothing may follow the body
-pub at-end : (t left : List ℕ) (r : Read) → wholeOf (atEnd t r) left ≡ resume t (inside []) r left
+  done-ended : length t ≤ n → (accepted, table) ≡ walk t done n table
+  unfolding ended
+  done-ended h = walk-ended done h
+
+-- a PI target and its data
+pub instruction-read : (t : List ℕ) (n w : ℕ) (table mid left : List ℕ) (s s′ : State) → n + 1 < length t → getD t n 0 ≡ piTargetKind → getD t (n + 1) 0 ≡ piDataKind
+    → step deepest s n piTargetKind ≡ move w (target w s′) → mid ≡ set table n w → left ≡ set mid (n + 1) w → walk t s′ (n + 2) left ≡ walk t s n table
+instruction-read t n w table mid left s s′ h e d c m l =
+    let two : n + 2 ≡ n + 1 + 1 = omega arith in
+    ap (λ (i : ℕ). walk t s′ i left) two
+    ∙ target-data t (n + 1) mid h w left s′ d l ∙ pair-target t n table (omega arith) w s s′ mid e c m
+
+-- where a target may stand: before the root, in content, and after the root
+pub leads : (n : ℕ) → step deepest begin n piTargetKind ≡ move 0 (target 0 root)
+unfolding step
+leads n = refl
+
+pub stands-inside : (n w : ℕ) (st : List ℕ) → step deepest (inside (w ∷ st)) n piTargetKind ≡ move w (target w (inside (w ∷ st)))
+unfolding step
+stands-inside n w st = refl
+
+pub closes : (n : ℕ) → step deepest (inside []) n piTargetKind ≡ move 0 (target 0 done)
+unfolding step
+closes n = refl
+
+-- nothing may follow a closing pair
+pub at-end : (t left : List ℕ) (r : Read) → wholeOf (atEnd t r) left ≡ resume t done r left
 at-end t left (R.Next j) =
-    either (λ (r : Read). wholeOf r left ≡ walk t (inside []) j left) (ltb j (length t)) _ _
-    (λ e. over-more t j left (ltb-true j (length t) e))
-    (λ e. over-ended t j left (ltb-false j (length t) e))
+    either (λ (r : Read). wholeOf r left ≡ walk t done j left) (ltb j (length t)) _ _
+    (λ e. done-more t j left (ltb-true j (length t) e))
+    (λ e. done-ended t j left (ltb-false j (length t) e))
 at-end t left (R.Refused p k) = refl
 
 -- a leaf's answer, taken apart

@@ -1,4 +1,4 @@
--- The grammar of an event body, and its owner table. Document 01, "Grammar".
+-- The grammar of an event body, and its owner table. Document 01, "Grammar"; document 02, P4: what may stand around the root.
 --
 -- Tokens go by their numbers, from 0 on: the span from i to j is the tokens i, i + 1, .. up to but not j. `suc i` is i + 1. A token's word in
 -- the table is its owner's number plus 1, or 0 for none; so the word `suc i` says that token i owns it. Of a token the grammar sees its mark
@@ -54,6 +54,12 @@ module _ (marks words : List ℕ) where
     pub attributes : Attributes (suc i) (suc i) j
     pub ruled : rule (getD marks i 0) (ltb (suc i) j)
 
+  -- "at most one target and data pair", around the root: from i to j. A pair is "PI target directly followed by PI data". "those outer tokens
+  -- have no owner"
+  pub data AtMostOnePair : ℕ → ℕ → Type 0 where
+    no-pair : {i : ℕ} → AtMostOnePair i i
+    a-pair : {i : ℕ} → Stands i piTargetKind 0 → Stands (suc i) piDataKind 0 → AtMostOnePair i (suc (suc i))
+
   -- "Elements and their content are defined through each other". No element's level is past the limit.
   module _ (rule : Rule) (limit : ℕ) where
     mutual
@@ -73,10 +79,14 @@ module _ (marks words : List ℕ) where
         instruction : {level w i j : ℕ} → Stands i piTargetKind w → Stands (suc i) piDataKind w → Content level w (suc (suc i)) j → Content level w i j
         child : {level w i m j : ℕ} → Element (suc level) w i m → Content level w m j → Content level w i j
 
-    -- "A body is one instance or one element." "the root is level 1"; "root and instance have no owner"
+    -- "one instance or element": from i to j. "the root is level 1"; "root and instance have no owner"
+    pub data Root : ℕ → ℕ → Type 0 where
+      an-instance : {i : ℕ} → Stands i instanceKind 0 → Root i (suc i)
+      an-element : {i j : ℕ} → Element 1 0 i j → Root i j
+
+    -- "A body is from now on at most one target and data pair, then one instance or element, then at most one pair": from i to j
     pub data Body : ℕ → ℕ → Type 0 where
-      an-instance : {i : ℕ} → Stands i instanceKind 0 → Body i (suc i)
-      an-element : {i j : ℕ} → Element 1 0 i j → Body i j
+      parts : {i a b j : ℕ} → AtMostOnePair i a → Root a b → AtMostOnePair b j → Body i j
 
 -- A reading: the tokens are a body nested at most `limit` elements deep, and the words are its owner table.
 pub record Reading (rule : Rule) (limit : ℕ) (marks words : List ℕ) : Type 0 where

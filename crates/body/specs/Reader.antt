@@ -19,13 +19,16 @@ use Rattle.body.specs.declared.reader.Tagged.{Tagged}
 use Rattle.body.specs.declared.reader.Tagged.the-variants as T
 
 -- Where the reader stands. A stack has the word of each element that is open, the innermost first.
--- begin: before the first token. tag: in an open tag, with the word of its last attribute (0 where there is none yet) and the element's own.
--- inside: in content; where no element is open the body is over. target: after a PI target.
+-- begin: before the first token. root: after a leading pair. tag: in an open tag, with the word of its last attribute (0 where there is none
+-- yet) and the element's own. inside: in content; where no element is open the root is over. done: after a closing pair. target: after a PI
+-- target, with its word and the state that its data leaves.
 pub data State : Type 0 where
   begin : State
+  root : State
   tag : ℕ → ℕ → List ℕ → State
   inside : List ℕ → State
-  target : ℕ → List ℕ → State
+  done : State
+  target : ℕ → State → State
 
 pub data Out : Type 0 where
   accepted : Out
@@ -50,12 +53,17 @@ isLeaf k = eqb k cdataKind || isItem k
 unfoldable pub opening : ℕ → ℕ → List ℕ → ℕ → Step
 opening limit w st n = pick (ltb (length st) limit) (move w (tag 0 (suc n) st)) (stop (refused tooDeep n))
 
--- token n, of the kind k
-unfoldable pub step : ℕ → State → ℕ → ℕ → Step
-step limit begin n k =
+-- the root's first token
+abbrev pub rooted : ℕ → ℕ → ℕ → Step
+rooted limit n k =
     pick (isOpen k) (opening limit 0 [] n)
     (pick (eqb k instanceKind) (move 0 (inside []))
     (stop (refused noBody n)))
+
+-- token n, of the kind k
+unfoldable pub step : ℕ → State → ℕ → ℕ → Step
+step limit begin n k = pick (eqb k piTargetKind) (move 0 (target 0 root)) (rooted limit n k)
+step limit root n k = rooted limit n k
 step limit (tag a w st) n k =
     pick (eqb k attributeKind) (move w (tag (suc n) w st))
     (pick (eqb k closeEmptyKind) (move w (inside st))
@@ -63,22 +71,25 @@ step limit (tag a w st) n k =
     (pick (eqb a 0) (stop (refused noBody n))
     (pick (isItem k) (move a (tag a w st))
     (stop (refused noBody n))))))
-step limit (inside []) n k = stop (refused noBody n)
+step limit (inside []) n k = pick (eqb k piTargetKind) (move 0 (target 0 done)) (stop (refused noBody n))
+step limit done n k = stop (refused noBody n)
 step limit (inside (w ∷ st)) n k =
     pick (eqb k closeElementKind) (move w (inside st))
     (pick (isOpen k) (opening limit w (w ∷ st) n)
-    (pick (eqb k piTargetKind) (move w (target w st))
+    (pick (eqb k piTargetKind) (move w (target w (inside (w ∷ st))))
     (pick (isLeaf k) (move w (inside (w ∷ st)))
     (stop (refused noBody n)))))
-step limit (target w st) n k = pick (eqb k piDataKind) (move w (inside (w ∷ st))) (stop (refused noBody n))
+step limit (target w s) n k = pick (eqb k piDataKind) (move w s) (stop (refused noBody n))
 
 -- the answer where the tokens end
 unfoldable pub ended : State → ℕ → Out
 ended begin n = refused unfinished n
+ended root n = refused unfinished n
 ended (tag a w st) n = refused unfinished n
 ended (inside []) n = accepted
 ended (inside (w ∷ st)) n = refused unfinished n
-ended (target w st) n = refused unfinished n
+ended done n = accepted
+ended (target w s) n = refused unfinished n
 
 -- from a state at token n on: the answer, and the words of the tokens that were read
 unfoldable pub outcome : ℕ → State → ℕ → List ℕ → Out
@@ -138,7 +149,15 @@ TagRead t at last me table r left = (st : List ℕ) → tagResume t me st r left
 abbrev pub TagEndRead : List ℕ → ℕ → ℕ → List ℕ → Tagged → List ℕ → Type 0
 TagEndRead t at me table r left = (last : ℕ) → TagRead t at last me table r left
 
--- "A body is one" element: nothing follows it
+-- a PI target and its data, from any state in which a target may stand, with the word w: s′ is the state after the data
+abbrev pub PairRead : List ℕ → ℕ → ℕ → List ℕ → Read → List ℕ → Type 0
+PairRead t at w table r left = (s s′ : State) → step deepest s at piTargetKind ≡ move w (target w s′) → resume t s′ r left ≡ walk t s at table
+
+-- a reader's answer and table are those of the whole, from the state s on; s′ is the state that it leaves
+abbrev pub PartRead : State → State → List ℕ → ℕ → List ℕ → Read → List ℕ → Type 0
+PartRead s s′ t at table r left = resume t s′ r left ≡ walk t s at table
+
+-- "then at most one pair": nothing follows it
 abbrev pub atEnd : List ℕ → Read → Read
 atEnd t (R.Next j) = pick (ltb j (length t)) (R.Refused j noBody) (R.Next j)
 atEnd t (R.Refused p k) = R.Refused p k

@@ -5,10 +5,11 @@ use cursor::Refusal;
 use tokens::Token;
 ghost use mathlib.Core.Path.{_≡_};
 ghost use mathlib.Core.Bool.{false};
+ghost use mathlib.Core.List.{[]};
 ghost use Prim.Native.Nat.{_≤_, _<_};
 ghost use lib.ListN.{length, getD, set};
 ghost use Rattle.tokens.specs.Token.{closeElementKind, attributeKind, piTargetKind};
-ghost use Rattle.body.specs.Reader.{isOpen, isItem, isLeaf, further, tagFurther, ElementRead, ContentRead, LeafRead, TagRead, TagEndRead, atEnd, wholeOf, walk, begin};
+ghost use Rattle.body.specs.Reader.{isOpen, isItem, isLeaf, further, tagFurther, ElementRead, ContentRead, LeafRead, TagRead, TagEndRead, PairRead, PartRead, atEnd, wholeOf, walk, begin, root, inside};
 
 // The token after what was read, or a refusal's place and number. (The place comes first: it then lies in memory where the token's number
 // does. An element's answer goes through memory, and a byte laid over that number had it put there in pieces.)
@@ -24,25 +25,73 @@ pub enum Tagged {
     Refused(usize, u8),
 }
 
-// Reads a whole body.
+// Reads a whole body: "at most one target and data pair, then one instance or element, then at most one pair".
 pub(crate) fn whole(kinds: &[u8], table: &mut [u32]) -> Read
     requires { ⌜ length (now kinds) ≤ 65536 ⌝ }
     ensures { λ r. ⌜ wholeOf r (now (table .exit)) ≡ walk (now (kinds .entry)) begin 0 (now (table .entry)) ⌝ }
 {
-    if kinds.len() == 0 {
-        return Read::Refused(0, Refusal::UNFINISHED);
+    match leading(kinds, table) {
+        Read::Next(at) => from_root(kinds, at, table),
+        Read::Refused(place, number) => Read::Refused(place, number),
     }
-    if is_open(kinds[0]) {
-        return at_end(kinds, element(kinds, 0, 0, 0, table));
-    }
-    if kinds[0] == Token::INSTANCE {
-        put(table, 0, 0);
-        return at_end(kinds, Read::Next(1));
-    }
-    Read::Refused(0, Refusal::NO_BODY)
 }
 
-// "A body is one" instance or element: nothing follows what was read.
+// Reads the pair before the root, where there is one.
+fn leading(kinds: &[u8], table: &mut [u32]) -> Read
+    ensures { λ r. ⌜ PartRead begin root (now (kinds .entry)) 0 (now (table .entry)) r (now (table .exit)) ⌝ }
+{
+    if kinds.len() == 0 {
+        return Read::Next(0);
+    }
+    if kinds[0] != Token::PI_TARGET {
+        return Read::Next(0);
+    }
+    instruction(kinds, 0, 0, table)
+}
+
+// Reads the root, whose first token is at `at`, and what follows it.
+fn from_root(kinds: &[u8], at: usize, table: &mut [u32]) -> Read
+    requires { ⌜ length (now kinds) ≤ 65536 ⌝ }
+    ensures { λ r. ⌜ wholeOf r (now (table .exit)) ≡ walk (now (kinds .entry)) root at (now (table .entry)) ⌝ }
+{
+    match root_at(kinds, at, table) {
+        Read::Next(next) => closing(kinds, next, table),
+        Read::Refused(place, number) => Read::Refused(place, number),
+    }
+}
+
+// Reads the root: an element or an instance.
+fn root_at(kinds: &[u8], at: usize, table: &mut [u32]) -> Read
+    requires { ⌜ length (now kinds) ≤ 65536 ⌝ }
+    ensures { λ r. ⌜ PartRead root (inside []) (now (kinds .entry)) at (now (table .entry)) r (now (table .exit)) ⌝ }
+{
+    if at >= kinds.len() {
+        return Read::Refused(at, Refusal::UNFINISHED);
+    }
+    if is_open(kinds[at]) {
+        return element(kinds, at, 0, 0, table);
+    }
+    if kinds[at] == Token::INSTANCE {
+        put(table, at, 0);
+        return Read::Next(at + 1);
+    }
+    Read::Refused(at, Refusal::NO_BODY) // the root is an instance or an element
+}
+
+// Reads what follows the root: a pair or nothing.
+fn closing(kinds: &[u8], at: usize, table: &mut [u32]) -> Read
+    ensures { λ r. ⌜ wholeOf r (now (table .exit)) ≡ walk (now (kinds .entry)) (inside []) at (now (table .entry)) ⌝ }
+{
+    if at >= kinds.len() {
+        return Read::Next(at);
+    }
+    if kinds[at] != Token::PI_TARGET {
+        return Read::Refused(at, Refusal::NO_BODY); // only a pair follows the root
+    }
+    at_end(kinds, instruction(kinds, at, 0, table))
+}
+
+// "then at most one pair": nothing follows it.
 fn at_end(kinds: &[u8], got: Read) -> Read
     ensures { λ r. ⌜ r ≡ atEnd (now (kinds .entry)) got ⌝ }
 {
@@ -119,11 +168,11 @@ fn leaf(kinds: &[u8], at: usize, me: u32, table: &mut [u32]) -> Read
     Read::Refused(at, Refusal::NO_BODY)
 }
 
-// Reads a PI target and the PI data that must follow it.
+// Reads a PI target and the PI data that must follow it, each with the word `me`: in content, or around the root.
 fn instruction(kinds: &[u8], at: usize, me: u32, table: &mut [u32]) -> Read
     requires { ⌜ (at < length (now kinds)) × (getD (now kinds) at 0 ≡ piTargetKind) ⌝ }
     ensures { λ r. ⌜ further (now (kinds .entry)) at r ⌝ }
-    ensures { λ r. ⌜ LeafRead (now (kinds .entry)) at me (now (table .entry)) r (now (table .exit)) ⌝ }
+    ensures { λ r. ⌜ PairRead (now (kinds .entry)) at me (now (table .entry)) r (now (table .exit)) ⌝ }
 {
     put(table, at, me);
     if at + 1 >= kinds.len() {

@@ -12,6 +12,7 @@ pub mod OfTokens
 pub mod OfSheet
 pub mod OfBody
 pub mod Bodies
+pub mod Around
 pub mod OfDoortumble
 pub mod OfPrint
 pub mod OfAnswers

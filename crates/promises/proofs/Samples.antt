@@ -1,4 +1,4 @@
--- Document 01's samples hold: computed on the definitions that the contracts cite. Assumes nothing.
+-- The samples of documents 01 and 02 hold: computed on the definitions that the contracts cite. Assumes nothing.
 use mathlib.Core.Path.{_≡_, refl, subst}
 use mathlib.Core.List.{List}
 use Prim.Native.Nat.{ℕ}
@@ -29,4 +29,4 @@ a-body w lent r left e f = subst (λ (l : List ℕ). Answered lent l w r) f (sub
 pub all-samples : All samples
 unfolding samples little arrayAt unitsOf beforeZero hashFrom unitsAt among knownCode widthOf sizedAt unsizedAt tableAt valuesAt singleOf gistAt turnAt stepFrom walkFrom walkOf opening step ended outcome wordsFrom
 all-samples =
-    refl and a-body _ _ _ _ refl refl and refl and a-body _ _ _ _ refl refl and refl and refl and refl and (refl, refl) and (refl, refl) and a-body _ _ _ _ refl refl and a-body _ _ _ _ refl refl and refl and refl and refl and refl and a-body _ _ _ _ refl refl and refl and refl and refl and refl and a-body _ _ _ _ refl refl and refl and refl and refl and refl and refl and refl and tt {0}
+    refl and a-body _ _ _ _ refl refl and refl and a-body _ _ _ _ refl refl and refl and refl and refl and (refl, refl) and (refl, refl) and a-body _ _ _ _ refl refl and a-body _ _ _ _ refl refl and refl and refl and refl and refl and a-body _ _ _ _ refl refl and refl and refl and refl and refl and a-body _ _ _ _ refl refl and refl and refl and refl and refl and refl and refl and a-body _ _ _ _ refl refl and a-body _ _ _ _ refl refl and a-body _ _ _ _ refl refl and a-body _ _ _ _ refl refl and a-body _ _ _ _ refl refl and a-body _ _ _ _ refl refl and a-body _ _ _ _ refl refl and a-body _ _ _ _ refl refl and tt {0}

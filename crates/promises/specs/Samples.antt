@@ -1,5 +1,6 @@
 -- Document 01's sample streams that are to be proved (marked P there), as one list, their sheets restated with two words a token (document
--- 02, P2); and an open byte 41, an inline name, and lent sheets. Offset names; start 0 and whole length unless said.
+-- 02, P2); an open byte 41, an inline name, and lent sheets; and bodies with a pair around the root (document 02, P4). Offset names; start 0
+-- and whole length unless said.
 use mathlib.Core.Path.{_≡_}
 use mathlib.Core.Bool.{Bool, true, false}
 use mathlib.Core.List.{List, [], _∷_}
@@ -109,6 +110,17 @@ abbrev pub anInstance : ℕ → ℕ → List ℕ → List ℕ
 anInstance size code data′ =
     0x0C ∷ 1 ∷ 7 ∷ 0 ∷ 0 ∷ 0 ∷ 0 ∷ 2 ∷ 0 ∷ 0 ∷ 1 ∷ 0 ∷ 0 ∷ 0 ∷ size ∷ 0 ∷ code ∷ 0 ∷ data′
 
+-- `0A 00020000` and `0B 0000`: a PI target, and PI data without a unit
+abbrev pub aTarget : List ℕ → List ℕ
+aTarget rest = 0x0A ∷ 0 ∷ 2 ∷ 0 ∷ 0 ∷ rest
+
+abbrev pub aPair : List ℕ → List ℕ
+aPair rest = aTarget (0x0B ∷ 0 ∷ 0 ∷ rest)
+
+-- `01 00000000 00020000 03`, and what follows
+abbrev pub anElement : List ℕ → List ℕ
+anElement rest = 0x01 ∷ 0 ∷ 0 ∷ 0 ∷ 0 ∷ 0 ∷ 2 ∷ 0 ∷ 0 ∷ 0x03 ∷ rest
+
 unfoldable pub samples : List Sample
 samples =
     -- "empty, length 0: read; as a body 15 at 0"
@@ -153,4 +165,15 @@ samples =
     singles (0x0F ∷ 1 ∷ 1 ∷ 0 ∷ 0x0C ∷ []) nothing ∷
     singles (0x0F ∷ 1 ∷ 1 ∷ 0 ∷ 0x0C ∷ 0 ∷ []) (just 5) ∷
     singles (0x0C ∷ []) (just 1) ∷
+    -- P4: "a lone pair is unfinished", and a target alone; "two leading pairs are refused 13 at the second target"
+    bodies (whole (aPair [])) (9 ∷ []) (refuses 15 2) (9 ∷ []) ∷
+    bodies (whole (aTarget [])) (9 ∷ []) (refuses 15 1) (9 ∷ []) ∷
+    bodies (whole (aPair (aPair (anElement [])))) (9 ∷ []) (refuses 13 2) (9 ∷ []) ∷
+    -- a pair before, after and on both sides of an element and of an instance: "those outer tokens have no owner"
+    bodies (whole (aPair (anElement []))) (9 ∷ 9 ∷ 9 ∷ 9 ∷ 9 ∷ []) (gives 4) (0 ∷ 0 ∷ 0 ∷ 3 ∷ 9 ∷ []) ∷
+    bodies (whole (anElement (aPair []))) (9 ∷ 9 ∷ 9 ∷ 9 ∷ 9 ∷ []) (gives 4) (0 ∷ 1 ∷ 0 ∷ 0 ∷ 9 ∷ []) ∷
+    bodies (whole (aPair (anElement (aPair [])))) (9 ∷ 9 ∷ 9 ∷ 9 ∷ 9 ∷ 9 ∷ []) (gives 6) (0 ∷ 0 ∷ 0 ∷ 3 ∷ 0 ∷ 0 ∷ []) ∷
+    bodies (whole (aPair (anInstance 2 0x08 (0x2A ∷ 0 ∷ 0 ∷ 0 ∷ aPair [])))) (9 ∷ 9 ∷ 9 ∷ 9 ∷ 9 ∷ []) (gives 5) (0 ∷ 0 ∷ 0 ∷ 0 ∷ 0 ∷ []) ∷
+    -- and nothing follows the second pair
+    bodies (whole (anElement (aPair (aTarget [])))) (9 ∷ []) (refuses 13 4) (9 ∷ []) ∷
     []

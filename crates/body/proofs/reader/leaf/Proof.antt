@@ -6,6 +6,11 @@ use Rattle.body.proofs.Walking as walking
 use Rattle.body.proofs.reader.leaf.Statement.{statement}
 use Rattle.body.proofs.reader.leaf.Tie as tie
 
+returns : tie.Need-returns
+returns c =
+    let got = c .before .before .instruction .ensures in
+    (got .0, λ st. got .1 _ _ (walking.stands-inside _ _ st))
+
 returns-2 : tie.Need-returns-2
 returns-2 c =
     let p = c .before .before .before .before .before .before .before .before .before .before .pre in (
@@ -25,7 +30,7 @@ leaf-spec =
     (λ c. search needs)
     (λ c κs. search needs)
     (λ c. search needs)
-    (λ c. search needs)
+    returns
     (λ c κs. search needs)
     (λ c κs. search needs)
     (λ c. search needs)
