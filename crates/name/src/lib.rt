@@ -5,6 +5,8 @@ mod offset;
 use cursor::Cursor;
 use cursor::Refusal;
 use cursor::unit_at;
+use std::num::wrapping_add_u32;
+use std::num::wrapping_sub_u32;
 ghost use mathlib.Core.Path.{_≡_};
 ghost use Rattle.cursor.specs.Text.{unitsOf};
 ghost use Rattle.name.specs.Hash.{hashOf, mixed};
@@ -58,9 +60,14 @@ pub fn name_hash(units: &[u8]) -> u16
     (h % 0x1_0000) as u16
 }
 
-// One unit more.
+// One unit more, a line for each step of the tables (document 02, P6): "the old value moved up by 16, plus moved up by 6, less itself,
+// plus the unit", each modulo 2^32. docs/HASH.md has names worked out so.
 fn mix(h: u32, unit: u16) -> u32
     ensures { λ r. ⌜ r ≡ mixed h unit ⌝ }
 {
-    (((h as u64) * 65599 + unit as u64) % 0x1_0000_0000) as u32
+    let moved_up_by_16 = h << 16;
+    let plus_moved_up_by_6 = wrapping_add_u32(moved_up_by_16, h << 6);
+    let less_itself = wrapping_sub_u32(plus_moved_up_by_6, h);
+    let plus_the_unit = wrapping_add_u32(less_itself, unit as u32);
+    plus_the_unit
 }
