@@ -92,6 +92,37 @@ bool empty_element()
     return so;
 }
 
+// A kept sheet of an element whose byte is 41, with a dependency and, behind a start, with an inline name.
+bool kept_sheets()
+{
+    const uint8_t stream[] = {0x41, 0xFE, 0xFF, 0, 0, 0, 0, 0xFE, 0xFF, 0xFF, 0xFF, 0, 0, 0, 0, 0x03, 0x00};
+    const uint8_t name[] = {0x10, 0x01, 0, 0, 0, 0, 0x41, 0x10, 0x02, 0, 0x41, 0, 0x42, 0, 0, 0, 0x03, 0x00};
+    const uint64_t old[2] = {0x200000003FFFFA00, 0x4000780004000000};
+    const uint64_t named[2] = {0x200008003C000000, 0x4000800004000000};
+    uint64_t sheet[5] = {untouched, untouched, untouched, untouched, untouched};
+    uint64_t back[3] = {untouched, untouched, untouched};
+    bool so = true;
+
+    so &= counts("no bytes have an old sheet of no words", doortumble_widen(nullptr, 0, 0, 0, 0, 0, nullptr, 0, nullptr, 0), 0);
+    so &= counts("and a new one", doortumble_narrow(nullptr, 0, 0, 0, 0, 0, nullptr, 0, nullptr, 0), 0);
+    so &= refuses("a word is missing", doortumble_widen(stream, 17, 0, 17, 1, 0, old, 1, sheet, 0), DOORTUMBLE_WRONG_SHEET, 1);
+    so &= refuses("without the dependency it is another sheet's", doortumble_widen(stream, 17, 0, 17, 0, 0, old, 2, sheet, 5),
+                  DOORTUMBLE_WRONG_SHEET, 0);
+    so &= refuses("three words are few", doortumble_widen(stream, 17, 0, 17, 1, 0, old, 2, sheet, 3), DOORTUMBLE_NO_ROOM, 4);
+    so &= holds("a refusal leaves the sheet", sheet[0] == untouched && sheet[4] == untouched);
+    so &= counts("the old sheet is the stream's", doortumble_widen(stream, 17, 0, 17, 1, 0, old, 2, sheet, 5), 2);
+    so &= holds("the new sheet", sheet[0] == old[0] + 0x100 && sheet[1] == 0xFFFFFFFE00000000 && sheet[2] == old[1] && sheet[3] == 0);
+    so &= holds("a word past it stays", sheet[4] == untouched);
+    so &= refuses("a word too many", doortumble_narrow(stream, 17, 0, 17, 1, 0, sheet, 5, back, 3), DOORTUMBLE_WRONG_SHEET, 4);
+    so &= refuses("one word is few", doortumble_narrow(stream, 17, 0, 17, 1, 0, sheet, 4, back, 1), DOORTUMBLE_NO_ROOM, 2);
+    so &= holds("a refusal leaves the old sheet", back[0] == untouched);
+    so &= counts("the new sheet is the stream's", doortumble_narrow(stream, 17, 0, 17, 1, 0, sheet, 4, back, 3), 2);
+    so &= holds("the old words come back", back[0] == old[0] && back[1] == old[1] && back[2] == untouched);
+    so &= counts("an inline name behind a start", doortumble_widen(name, 18, 1, 17, 0, 0x80000000, named, 2, sheet, 4), 2);
+    so &= holds("its offset", sheet[0] == named[0] && sheet[1] == 0x0000000600000000);
+    return so;
+}
+
 bool pairs()
 {
     // A PI target with its data, an empty element, and a target with its data again.
@@ -245,7 +276,7 @@ bool chunk_header()
 
 int main()
 {
-    const bool so[] = {nothing_lent(), empty_element(), pairs(), flags(), whole_file(), file_header(), chunk_header()};
+    const bool so[] = {nothing_lent(), empty_element(), kept_sheets(), pairs(), flags(), whole_file(), file_header(), chunk_header()};
 
     for (const bool one : so)
         if (!one)

@@ -1,11 +1,13 @@
 // doortumble.h: read Windows event logs from C (C99 or later) or C++.
 //
-// Six calls over what the caller lends:
+// Eight calls over what the caller lends:
 //
 //   doortumble_list_file      the records of a whole log file, six words a row
 //   doortumble_list           the records of a chunk, five words a row
 //   doortumble_sheet          the tokens of a record's stream, two words a token
 //   doortumble_owners         which token each token belongs to, where the stream is one event body
+//   doortumble_widen          that sheet from a kept one of the old layout, which has one word a token
+//   doortumble_narrow         a sheet of the old layout from one of two words a token
 //   doortumble_file_header    the numbers of a log file's header, and whether its checksum is right
 //   doortumble_chunk_header   the numbers of a chunk's header, and whether its two checksums are right
 //
@@ -20,7 +22,8 @@
 //   - A refusal leaves the lent words as they were. Without a refusal, the words past the count stay as they were.
 //   - It keeps nothing when it returns, allocates nothing, and needs at most 1 MiB of stack. Calls may run side by side.
 //   - A null pointer with length 0 is allowed, for bytes and for words. Any other pointer must be good for its whole length.
-//   - The lent words must not overlap the bytes, and nobody may change either while the call runs.
+//   - The lent words must not overlap the bytes or the words that are given, and nobody may change any of them while the call
+//     runs.
 //
 // Link with target/staticlib/libdoortumble.a, which `rt staticlib doortumble` writes.
 #ifndef DOORTUMBLE_H
@@ -65,7 +68,8 @@ enum {
     DOORTUMBLE_UNFINISHED = 15,     // body unfinished; place: count of tokens
     DOORTUMBLE_NO_ROOM = 16,        // lent words too few; place: words needed
     DOORTUMBLE_SIZE_COPY = 17,      // a record's size copy differs; place: the record's offset (no call here answers it)
-    DOORTUMBLE_WRONG_FILE = 18      // fewer than 128 bytes, or wrong file magic; place: 0
+    DOORTUMBLE_WRONG_FILE = 18,     // fewer than 128 bytes, or wrong file magic; place: 0
+    DOORTUMBLE_WRONG_SHEET = 19     // not the stream's sheet; place: number of the first word wrong, missing or extra
 };
 
 // Why, in words, for the person who has to act on it.
@@ -108,13 +112,16 @@ static inline const char *doortumble_why(unsigned number)
         return "a record's two sizes disagree: its end was overwritten";
     case DOORTUMBLE_WRONG_FILE:
         return "this is no event log file: it has fewer than 128 bytes, or does not begin with \"ElfFile\" and a zero";
+    case DOORTUMBLE_WRONG_SHEET:
+        return "the sheet given is not this stream's: from the word at the place on it was changed, cut or made longer, or it was made "
+               "with another start, length or flags";
     default:
         return "there is no such refusal: this header does not belong to the library that was linked";
     }
 }
 
 // What the place of a refusal counts, in a word: "offset" (bytes from the start of the chunk, stream or file), "token" (a token's
-// number, from 0), "tokens" (how many there are) or "words" (how many are needed).
+// number, from 0), "tokens" (how many there are), "word" (a word's number, from 0) or "words" (how many are needed).
 static inline const char *doortumble_place_is(unsigned number)
 {
     switch (number) {
@@ -123,6 +130,8 @@ static inline const char *doortumble_place_is(unsigned number)
         return "token";
     case DOORTUMBLE_UNFINISHED:
         return "tokens";
+    case DOORTUMBLE_WRONG_SHEET:
+        return "word";
     case DOORTUMBLE_NO_ROOM:
         return "words";
     default:
@@ -429,7 +438,8 @@ enum {
 // A sheet of the old layout has one word a token, and no name: its word n is the first word of token n here, sheet[2 * n], with
 // announced cleared (& ~(UINT64_C(1) << 8)). All other fields are in the same bits. So a program that was made for it lends twice
 // the words, takes token n with doortumble_token_at(sheet, n) in place of taking sheet[n] apart, and is refused 16 with twice the
-// place. The count in the answer is the count of tokens, as it was.
+// place. The count in the answer is the count of tokens, as it was. Sheets that were kept in the old layout are made anew from it by
+// doortumble_widen, below.
 typedef struct doortumble_token {
     unsigned kind;      // 1 to 13, see above
     uint32_t place;     // offset of the token's byte in the stream
@@ -467,6 +477,32 @@ static inline int doortumble_has_name(doortumble_token token)
     return token.kind == DOORTUMBLE_KIND_OPEN || token.kind == DOORTUMBLE_KIND_ATTRIBUTE ||
            token.kind == DOORTUMBLE_KIND_ENTITY_REF || token.kind == DOORTUMBLE_KIND_PI_TARGET;
 }
+
+// ------------------------------------------------------------------------------------------------------ the kept sheets
+
+// Make the sheet of a stream, two words a token, from a kept one of the old layout, which has one. The old sheet must be exactly
+// that of the stream, read with this start, length and these flags: whatever was changed in it since is found.
+//
+//   stream to inline_names   as for doortumble_sheet, and as when the old sheet was made
+//   old, old_len             the old sheet, and its length in words, which is the count of its tokens
+//   sheet, sheet_len         lent for the sheet, and its length in words: twice old_len is enough. It must not overlap the old one
+//
+// Answer: how many tokens there are, or a refusal: those of doortumble_sheet, and before 16 also 19 where the old sheet is not
+// the stream's. 19's place is the number of the first word, from 0, that is not the stream's; where the sheet ends too soon, how
+// many words it has; where it goes on too long, how many it should have.
+//
+// A refusal leaves the sheet as it was; words past the last token's stay, and the old sheet is never written. Nothing is kept or
+// allocated, at most 1 MiB of stack is needed, and a null pointer with length 0 is allowed.
+uint64_t doortumble_widen(const uint8_t *stream, size_t stream_len, uint32_t start, uint32_t length, uint32_t dependencies,
+                          uint32_t inline_names, const uint64_t *old, size_t old_len, uint64_t *sheet, size_t sheet_len);
+
+// The same the other way: make the sheet of the old layout, one word a token, from one of two words a token, which must be
+// exactly the stream's. What doortumble_widen wrote gives equal words back, and the other way round.
+//
+//   sheet, sheet_len   the sheet, and its length in words, which is twice the count of its tokens: no words behind them
+//   old, old_len       lent for the old sheet, and its length in words: half of sheet_len is enough. It must not overlap the sheet
+uint64_t doortumble_narrow(const uint8_t *stream, size_t stream_len, uint32_t start, uint32_t length, uint32_t dependencies,
+                           uint32_t inline_names, const uint64_t *sheet, size_t sheet_len, uint64_t *old, size_t old_len);
 
 // ------------------------------------------------------------------------------------------------------------ the owners
 

@@ -1,4 +1,4 @@
-//! Modes O and C through the oracle: document 01's samples, with the sheet's words as document 02's request P2 has them, the order of
+//! Modes O, C and K through the oracle: document 01's samples, with the sheet's words as document 02's request P2 has them, the order of
 //! refusals, the packed words, and the lent words.
 
 mod common;
@@ -243,8 +243,91 @@ fn most_words() {
     assert_eq!(owners(&text), "refused 13 0\n");
 }
 
+/// A kept sheet of a whole stream; flag 4: the old one is made from the new.
+fn moved(flags: u8, room: u32, given: &[u64], text: &str) -> String {
+    let stream = hex(text);
+    let mut data = [room, given.len() as u32].map(u32::to_le_bytes).concat();
+    data.extend(given.iter().flat_map(|word| word.to_le_bytes()));
+    data.extend(&stream);
+    answers(&case(b'K', flags, 0, stream.len() as u32, &data))
+}
+
+#[test]
+fn kept_sheets() {
+    let old = [0x2000000024000000, 0x4000480004000000];
+    let new = [old[0], 0x0000020000000000, old[1], 0];
+    let lines =
+        |words: &[u64]| -> String { words.iter().map(|word| format!(" {word:016x}")).collect() };
+    let made = |words: &[u64]| format!("answer 0000000000000002\nwords{}\n", lines(words));
+    assert_eq!(moved(0, 4, &old, ELEMENT), made(&new));
+    assert_eq!(moved(4, 2, &new, ELEMENT), made(&old));
+    assert_eq!(
+        moved(4, 3, &new, ELEMENT),
+        made(&[old[0], old[1], u64::MAX])
+    );
+    let refused = |number: u64, place: u64, room: usize| {
+        let word = 1 << 63 | number << 56 | place;
+        format!(
+            "answer {word:016x}\nwords{}\n",
+            lines(&vec![u64::MAX; room])
+        )
+    };
+    // 16 comes last, and counts the words of the sheet that is made.
+    assert_eq!(moved(0, 3, &old, ELEMENT), refused(16, 4, 3));
+    assert_eq!(moved(4, 1, &new, ELEMENT), refused(16, 2, 1));
+    // "at the first word wrong, missing or extra"
+    assert_eq!(
+        moved(0, 4, &[old[0], old[1] ^ 1], ELEMENT),
+        refused(19, 1, 4)
+    );
+    assert_eq!(
+        moved(0, 0, &[old[0] | 1 << 8, 0], ELEMENT),
+        refused(19, 0, 0)
+    );
+    assert_eq!(moved(0, 4, &old[..1], ELEMENT), refused(19, 1, 4));
+    assert_eq!(moved(0, 4, &[], ELEMENT), refused(19, 0, 4));
+    assert_eq!(moved(0, 4, &new[..3], ELEMENT), refused(19, 1, 4));
+    let more = [old[0], old[1], 0];
+    assert_eq!(moved(0, 4, &more, ELEMENT), refused(19, 2, 4));
+    assert_eq!(moved(4, 2, &new[..3], ELEMENT), refused(19, 3, 2));
+    assert_eq!(
+        moved(4, 2, &[new[0], 0, new[2], 0], ELEMENT),
+        refused(19, 1, 2)
+    );
+    let more = [new[0], new[1], new[2], new[3], 0];
+    assert_eq!(moved(4, 2, &more, ELEMENT), refused(19, 4, 2));
+    // The walk's own comes first.
+    assert_eq!(moved(0, 1, &[7], "10"), refused(9, 1, 1));
+    // An open byte 41: the bit that the old sheet does not have.
+    let text = "41 11223344 00020000 55667788 02 04 00";
+    let old = [0x2000000034000000, 0x3000680004000000, 0x5000700004000000];
+    let new = [old[0] | 1 << 8, 0x0000020000000000, old[1], 0, old[2], 0];
+    let made = |words: &[u64]| format!("answer 0000000000000003\nwords{}\n", lines(words));
+    assert_eq!(moved(0, 6, &old, text), made(&new));
+    assert_eq!(moved(4, 3, &new, text), made(&old));
+    assert_eq!(
+        moved(0, 0, &[old[0] | 1 << 8, old[1], old[2]], text),
+        refused(19, 0, 0)
+    );
+    let plain = [old[0], new[1], new[2], new[3], new[4], new[5]];
+    assert_eq!(moved(4, 0, &plain, text), refused(19, 0, 0));
+    // No tokens, and no words.
+    let none = "answer 0000000000000000\nwords\n";
+    assert_eq!(moved(0, 0, &[], "00"), none);
+    assert_eq!(moved(4, 0, &[], "00"), none);
+    assert_eq!(moved(4, 0, &[0], "00"), refused(19, 0, 0));
+}
+
 #[test]
 fn bad_cases() {
-    let short = case(b'C', 0, 0, 0, &[0; 3]);
-    assert_eq!(common::answers(&short), "bad case\n");
+    let bad = [
+        case(b'C', 0, 0, 0, &[0; 3]),
+        case(b'K', 0, 0, 0, &[0; 7]),
+        // One word is said to be given, and its last byte is missing.
+        case(b'K', 0, 0, 0, &hex("00000000 01000000 11223344556677")),
+        case(b'K', 0, 0, 0, &hex("00000000 FFFFFFFF 1122334455667788")),
+    ];
+    for short in bad {
+        assert_eq!(common::answers(&short), "bad case\n");
+    }
 }

@@ -1,5 +1,5 @@
 //! The made token cases reach every kind of token and every refusal of a walk, those of bodies also every refusal of the
-//! grammar and of lent words, and each is answered.
+//! grammar and of lent words, those of kept sheets that of a wrong one, and each is answered.
 
 use compare::cases;
 use compare::oracle::batch;
@@ -9,6 +9,10 @@ use std::collections::BTreeSet;
 /// The answers to the first `count` cases of a kind.
 fn answers(kind: &str, seed: u64, count: usize) -> String {
     let cases = cases::make(kind, seed, count).expect("a kind");
+    answers_to(cases)
+}
+
+fn answers_to(cases: impl Iterator<Item = cases::Case>) -> String {
     let bytes: Vec<u8> = cases.flat_map(|case| case.bytes()).collect();
     let mut out = Vec::new();
     batch::run(&mut &bytes[..], &mut out).expect("memory takes all");
@@ -164,6 +168,24 @@ fn made_body_cases() {
     assert_eq!(reached_rooms(&answers).len(), 4);
 }
 
+#[test]
+fn made_kept_cases() {
+    const COUNT: usize = 50_000;
+    let answers = answers("kept", 1, COUNT);
+    assert_eq!(answers.lines().filter(|line| *line == ".").count(), COUNT);
+    let count = |word: &str| {
+        answers
+            .lines()
+            .filter(|line| line.starts_with(word))
+            .count()
+    };
+    assert!(count("answer 0") > COUNT / 10 && count("answer 93") > COUNT / 10);
+    let (_, words) = reached_by_bodies(&answers);
+    for number in [2, 3, 7, 8, 9, 10, 11, 12, 16, 19] {
+        assert!(words.contains(&number), "no refusal {number} in mode K");
+    }
+}
+
 /// So many lists compare/run asks for: all up to four tokens, and with one item for the four of five and six; those up to three also
 /// after a fragment header and with the names and announced attributes that a sheet shows, and those up to two with C calls. The
 /// first of them reach each refusal.
@@ -203,9 +225,13 @@ fn real_cases() {
 
 #[test]
 fn stored_cases() {
-    let answers = answers("stored", 0, usize::MAX);
+    let stored = cases::make("stored", 0, usize::MAX).expect("a kind");
+    let (kept, others): (Vec<_>, Vec<_>) = stored.partition(|case| case.mode == b'K');
+    let answers = answers_to(others.into_iter());
     assert!(answers.ends_with(".\nbad case\n"));
     reaches_all(&answers);
+    let (_, words) = reached_by_bodies(&answers_to(kept.into_iter()));
+    assert_eq!(words, BTreeSet::from([2, 3, 7, 8, 9, 10, 11, 12, 16, 19]));
     let size: usize = cases::make("stored", 0, usize::MAX)
         .expect("a kind")
         .map(|case| case.bytes().len())

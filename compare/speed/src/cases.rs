@@ -37,10 +37,16 @@ impl Side {
 #[derive(Clone, Copy, PartialEq, Eq)]
 pub enum Kind {
     Checksum,
-    List { recovery: bool },
-    File { recovery: bool },
+    List {
+        recovery: bool,
+    },
+    File {
+        recovery: bool,
+    },
     Sheet,
     Owners,
+    /// The sheet from a kept one. The Rust has no such thing: it stands beside the port's own sheet call.
+    Widen,
 }
 
 /// What it is called on.
@@ -75,7 +81,7 @@ impl Case {
         all.filter(move |side| stands_in || *side != Side::StandIn)
     }
 
-    /// The call of a side. The Rust has no owner table: it makes the sheet.
+    /// The call of a side. The Rust has no owner table: it makes the sheet. Beside widening stands the port's sheet.
     pub fn call(&self, side: Side) -> Call<'_> {
         match (self.kind, &self.input) {
             (Kind::Checksum, Input::Chunk(chunk)) => match side {
@@ -92,6 +98,10 @@ impl Case {
                 Side::Rust => compare_vector::timed::list_file(file, recovery),
                 Side::StandIn => timed::list_file(file, recovery),
                 Side::Port => port::list_file(file, recovery),
+            },
+            (Kind::Widen, Input::Stream(Stream { bytes, asked })) => match side {
+                Side::Port => port::widen(bytes, *asked),
+                _ => port::sheet(bytes, *asked),
             },
             (kind, Input::Stream(Stream { bytes, asked })) => match side {
                 Side::Port if kind == Kind::Owners => port::owners(bytes, *asked),
@@ -176,15 +186,19 @@ pub fn all() -> Vec<Case> {
         goal: (chunks == 256).then_some(if recovery { 1.0 } else { 0.5 }),
         input: Input::File(inputs::log(chunks)),
     };
+    use Kind::{Owners, Sheet, Widen};
     let stream = |name, kind, stream| Case {
         name,
         kind,
-        goal: Some(if kind == Kind::Owners { 1.5 } else { 1.0 }),
+        goal: Some(match kind {
+            Owners => 1.5,
+            Widen => 1.3,
+            _ => 1.0,
+        }),
         input: Input::Stream(stream),
     };
     let repeated = inputs::repeated;
     let elements = inputs::elements;
-    use Kind::{Owners, Sheet};
     vec![
         Case {
             name: "checksum of a header",
@@ -221,5 +235,6 @@ pub fn all() -> Vec<Case> {
         stream("owners: instances", Owners, inputs::instances()),
         stream("owners: single", Owners, inputs::single()),
         stream("owners: single in chunk", Owners, inputs::single_in_chunk()),
+        stream("widen: elements", Widen, elements(false, false)),
     ]
 }

@@ -29,6 +29,18 @@ unsafe extern "C" {
         sheet: *mut u64,
         sheet_len: usize,
     ) -> u64;
+    fn doortumble_widen(
+        stream: *const u8,
+        stream_len: usize,
+        start: u32,
+        length: u32,
+        dependencies: u32,
+        inline_names: u32,
+        old: *const u64,
+        old_len: usize,
+        sheet: *mut u64,
+        sheet_len: usize,
+    ) -> u64;
     fn doortumble_owners(
         stream: *const u8,
         stream_len: usize,
@@ -94,6 +106,31 @@ pub fn sheet(stream: &[u8], asked: Asked) -> Call<'_> {
             sheet.as_mut_ptr(),
             sheet.len(),
         )
+    })
+}
+
+/// The sheet from the old one: the first words of the sheet, without the bit that is new.
+pub fn widen(stream: &[u8], asked: Asked) -> Call<'_> {
+    let mut words = vec![0; 2 * stream.len()];
+    let count = sheet(stream, asked)(&mut words) as usize;
+    let first = words.chunks(2).map(|words| words[0] & !(1 << 8));
+    let old: Vec<u64> = first.take(count).collect();
+    Box::new(move |sheet| {
+        // SAFETY: bytes and words are good for their lengths.
+        unsafe {
+            doortumble_widen(
+                stream.as_ptr(),
+                stream.len(),
+                asked.start as u32,
+                asked.length as u32,
+                u32::from(asked.dependencies),
+                u32::from(asked.inline_names),
+                old.as_ptr(),
+                old.len(),
+                sheet.as_mut_ptr(),
+                sheet.len(),
+            )
+        }
     })
 }
 

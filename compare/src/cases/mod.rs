@@ -4,6 +4,7 @@ mod body_cases;
 mod chunk_cases;
 mod chunks;
 pub mod file_cases;
+mod kept_cases;
 pub mod lists;
 pub mod random;
 pub mod real;
@@ -32,6 +33,7 @@ pub fn make(kind: &str, seed: u64, count: usize) -> Option<Box<dyn Iterator<Item
         "file" => file_cases::of_one_file,
         "token" => token_cases::of_one_stream,
         "body" => body_cases::of_one_body,
+        "kept" => kept_cases::of_one_sheet,
         _ => return None,
     };
     let mut random = Random::new(seed);

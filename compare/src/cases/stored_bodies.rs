@@ -59,7 +59,7 @@ const EVERY_TOKEN: [u8; 40] = [
 
 /// Streams whose tokens hold what the sheet shows, or what it does not: both names, in place and
 /// elsewhere, dependencies, instances, and where the walk reads on.
-const SHEETS: &[Sample] = &[
+pub(super) const SHEETS: &[Sample] = &[
     (0, "01 00000000 00020000 03 00"),
     (1, "01 FFFF 00000000 00020000 03 00"),
     (1, "01 0000 00000000 00020000 03 00"),

@@ -30,6 +30,7 @@ pub fn answer(case: &Case, out: &mut String) {
         b'S' => single(data, case.start as usize, out),
         b'O' => owners::push(rows(data, case.walk()), out),
         b'C' => calls::push(rows(data, case.walk()), case.call(), out),
+        b'K' => calls::push_moved(rows(data, case.walk()), &case.moved(), out),
         mode => unreachable!("a case of mode {mode}"),
     }
 }

@@ -220,7 +220,7 @@ impl Token<'_> {
     }
 
     /// What the sheet says of it.
-    pub(super) fn row(&self) -> Row {
+    pub(crate) fn row(&self) -> Row {
         let (number, flag) = match self.held {
             Held::Open(Open { dependency, .. }) => (dependency.unwrap_or(0), dependency.is_some()),
             Held::CharRef(number) => (number, false),

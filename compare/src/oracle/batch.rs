@@ -1,7 +1,7 @@
 //! A batch of cases and its answers, in all modes.
 
 use crate::document;
-use crate::oracle::calls::Call;
+use crate::oracle::calls::{Call, Move};
 use crate::oracle::chunk::State;
 use crate::oracle::differences::{self, Met};
 use crate::oracle::tokens::Asked;
@@ -12,6 +12,8 @@ const HEAD: usize = 14;
 const DATA_LIMIT: usize = 331_776;
 const STATE: usize = 40;
 const ROOM: usize = 4;
+const KEPT: usize = 8;
+const WORD: usize = 8;
 
 /// A case: its head's fields and its data.
 pub struct Case {
@@ -38,22 +40,38 @@ impl Case {
         self.flags & bit != 0
     }
 
-    /// What a mode's data has before the chunk or the stream, in bytes; `None` where there is no such mode.
-    fn front(mode: u8) -> Option<usize> {
+    /// What a mode's data has at least, in bytes; `None` where there is no such mode.
+    fn least(mode: u8) -> Option<usize> {
         match mode {
             b'H' | b'E' | b'R' | b'W' | b'F' | b'T' | b'S' | b'O' => Some(0),
             b'P' => Some(STATE),
             b'C' => Some(ROOM),
+            b'K' => Some(KEPT),
             _ => None,
         }
     }
 
-    /// The chunk or the stream.
-    pub(crate) fn input(&self) -> &[u8] {
-        &self.data[Case::front(self.mode).unwrap_or(0)..]
+    /// What the data has before the chunk or the stream: in mode K also the words that are given.
+    fn front(&self) -> usize {
+        let least = Case::least(self.mode).unwrap_or(0);
+        match self.mode {
+            b'K' => least + WORD * self.word(ROOM) as usize,
+            _ => least,
+        }
     }
 
-    /// The walk that the modes T, O and C begin with.
+    /// A word of 32 bits in the data.
+    fn word(&self, at: usize) -> u32 {
+        let bytes = self.data[at..].first_chunk().expect("a case has it");
+        u32::from_le_bytes(*bytes)
+    }
+
+    /// The chunk or the stream.
+    pub(crate) fn input(&self) -> &[u8] {
+        &self.data[self.front()..]
+    }
+
+    /// The walk that the modes T, O, C and K begin with.
     pub(crate) fn walk(&self) -> Asked {
         Asked {
             start: self.start as usize,
@@ -74,10 +92,19 @@ impl Case {
 
     /// Mode C's call.
     pub(crate) fn call(&self) -> Call {
-        let room = self.data.first_chunk::<ROOM>().expect("a case has it");
         Call {
             owners: self.flag(4),
-            room: u32::from_le_bytes(*room),
+            room: self.word(0),
+        }
+    }
+
+    /// Mode K's sheet.
+    pub(crate) fn moved(&self) -> Move {
+        let words = self.data[KEPT..self.front()].as_chunks::<WORD>().0;
+        Move {
+            narrow: self.flag(4),
+            room: self.word(0),
+            given: words.iter().map(|word| u64::from_le_bytes(*word)).collect(),
         }
     }
 }
@@ -143,7 +170,7 @@ fn next_case(input: &mut impl Read) -> io::Result<Next> {
     let word = |at: usize| u32::from_le_bytes([head[at], head[at + 1], head[at + 2], head[at + 3]]);
     let mode = head[0];
     let size = word(10) as usize;
-    let Some(least) = Case::front(mode) else {
+    let Some(least) = Case::least(mode) else {
         return Ok(Next::Bad);
     };
     if size > DATA_LIMIT || size < least {
@@ -153,13 +180,18 @@ fn next_case(input: &mut impl Read) -> io::Result<Next> {
     if data.len() < size {
         return Ok(Next::Bad);
     }
-    Ok(Next::Case(Case {
+    let case = Case {
         mode,
         flags: head[1],
         start: word(2),
         length: word(6),
         data,
-    }))
+    };
+    Ok(if case.data.len() < case.front() {
+        Next::Bad
+    } else {
+        Next::Case(case)
+    })
 }
 
 /// `size` bytes, or fewer where the input ends.
@@ -198,6 +230,11 @@ fn answer(case: &Case, out: &mut String) -> Met {
         b'C' => {
             let (rows, met) = tokens::rows(data, case.walk());
             calls::push(rows, case.call(), out);
+            met
+        }
+        b'K' => {
+            let (rows, met) = tokens::rows(data, case.walk());
+            calls::push_moved(rows, &case.moved(), out);
             met
         }
         mode => unreachable!("a case of mode {mode}"),

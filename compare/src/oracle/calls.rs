@@ -1,4 +1,4 @@
-//! Mode C: what the C calls answer and leave in the lent words ('Sheet and C calls'; document 02, P2).
+//! Modes C and K: what the C calls answer and leave in the lent words ('Sheet and C calls'; document 02, P2 and P3).
 //!
 //! The printed Rust has no such calls. The sheet's words are made from its walk's tokens, the owner
 //! table is mode O's, and document 01's rules for lent words come on top.
@@ -17,11 +17,31 @@ pub struct Call {
     pub room: u32,
 }
 
+/// A kept sheet that is to be moved: its words, which way, and how many words are lent.
+pub struct Move {
+    pub narrow: bool,
+    pub room: u32,
+    pub given: Vec<u64>,
+}
+
 impl Row {
+    /// The old sheet's word, document 01's: "A u64 a token, most significant first: kind 4 bits, place 17, length 17, number
+    /// 16, flag 1, 9 zeros".
+    pub(crate) fn old_word(&self) -> u64 {
+        packed([
+            (u64::from(self.kind), 4),
+            (self.place as u64, 17),
+            (self.length as u64, 17),
+            (u64::from(self.number), 16),
+            (u64::from(self.flag), 1),
+            (0, 9),
+        ])
+    }
+
     /// "The sheet becomes two words a token: the first as before with that bit in the first of the nine spare places, the
     /// second the name offset in 32 bits, then 32 zeros; tokens without a name have 0 there." As before: "most significant
     /// first: kind 4 bits, place 17, length 17, number 16, flag 1, 9 zeros".
-    fn words(&self) -> [u64; 2] {
+    pub(crate) fn words(&self) -> [u64; 2] {
         let first = [
             (u64::from(self.kind), 4),
             (self.place as u64, 17),
@@ -47,6 +67,13 @@ impl Filled {
         Filled {
             count: rows.len(),
             words: rows.iter().flat_map(Row::words).collect(),
+        }
+    }
+
+    fn old_sheet(rows: &[Row]) -> Self {
+        Filled {
+            count: rows.len(),
+            words: rows.iter().map(Row::old_word).collect(),
         }
     }
 
@@ -79,13 +106,40 @@ fn packed<const N: usize>(fields: [(u64, u32); N]) -> u64 {
 
 /// Mode C, of a walk's tokens.
 pub(crate) fn push(rows: Result<Vec<Row>, Refusal>, call: Call, out: &mut String) {
-    let filled = if call.owners {
-        owners::of_rows(rows).map(Filled::table)
+    if call.owners {
+        let filled = owners::of_rows(rows).map(Filled::table);
+        push_lent(filled, call.room, 8, u64::from(u32::MAX), out);
     } else {
-        rows.map(|rows| Filled::sheet(&rows))
-    };
+        let filled = rows.map(|rows| Filled::sheet(&rows));
+        push_lent(filled, call.room, 16, u64::MAX, out);
+    }
+}
 
-    let room = MOST_ROOM.min(call.room as usize);
+/// Mode K: "Given the old sheet and its stream, make the two-word sheet; given the new one, give the old one back. The sheet
+/// given, old or new, must be exactly the sheet of that stream under the stated start, length and flags."
+pub(crate) fn push_moved(rows: Result<Vec<Row>, Refusal>, moved: &Move, out: &mut String) {
+    // "19, not the stream's sheet, at the first word wrong, missing or extra, after the walk's own and before 16."
+    let filled = rows.and_then(|rows| {
+        let (old, new) = (Filled::old_sheet(&rows), Filled::sheet(&rows));
+        let (right, made) = if moved.narrow { (new, old) } else { (old, new) };
+        let words = right.words.len().max(moved.given.len());
+        match (0..words).find(|&word| right.words.get(word) != moved.given.get(word)) {
+            Some(word) => Err(Refusal::new(19, word as u64)),
+            None => Ok(made),
+        }
+    });
+    push_lent(filled, moved.room, 16, u64::MAX, out);
+}
+
+/// The answer, and the lent words, each of which is all ones before the call.
+fn push_lent(
+    filled: Result<Filled, Refusal>,
+    room: u32,
+    digits: usize,
+    ones: u64,
+    out: &mut String,
+) {
+    let room = MOST_ROOM.min(room as usize);
     // 16 comes last: "lent sheet or table too short", "words needed"; "refusal 16 for a sheet counts two words a token".
     let filled = filled.and_then(|filled| match filled.words.len() {
         needed if needed > room => Err(Refusal::new(16, needed as u64)),
@@ -94,11 +148,6 @@ pub(crate) fn push(rows: Result<Vec<Row>, Refusal>, call: Call, out: &mut String
     writeln!(out, "answer {:016x}", answer_word(&filled)).expect("a String takes all");
 
     // "A refusal writes nothing"; "words past the token count stay".
-    let (digits, ones) = if call.owners {
-        (8, u64::from(u32::MAX))
-    } else {
-        (16, u64::MAX)
-    };
     let mut lent = filled.map_or(Vec::new(), |filled| filled.words);
     lent.resize(room, ones);
     out.push_str("words");

@@ -94,6 +94,9 @@ fn answered(out: &mut [u8], at: usize, case: Case, bytes: &mut [u8]) -> Turn {
     }
     if is_read(n, bytes) {
         let part = Part { start: 0, len: n };
+        if n < front(case.mode, part.of(bytes)) {
+            return bad(out, at);
+        }
         let end = answer(out, at, case, part.of(bytes));
         let after = print::text(out, end, b".\n");
         return kept(out, after);
@@ -139,8 +142,17 @@ fn least_data(mode: u8) -> usize {
         b'S' => 0,
         b'O' => 0,
         b'C' => stream_answers::ROOM,
+        b'K' => stream_answers::KEPT,
         _ => MOST_DATA + 1,
     }
+}
+
+// What stands before the stream, where the data itself says how much that is.
+fn front(mode: u8, bytes: &[u8]) -> usize {
+    if mode == b'K' {
+        return stream_answers::kept_front(bytes);
+    }
+    0
 }
 
 // The answer lines of a case.
@@ -159,14 +171,17 @@ fn answer(out: &mut [u8], at: usize, case: Case, bytes: &[u8]) -> usize {
     }
 }
 
-// The modes that ask for a part of a stream. Of mode C, flag 4 is the owner call, else the sheet call.
+// The modes that ask for a part of a stream. Of mode C, flag 4 is the owner call, else the sheet call; of mode K the old sheet is made, else the
+// new one.
 fn on_stream(out: &mut [u8], at: usize, case: Case, bytes: &[u8]) -> usize {
     let mode = case.mode;
     let asked = asked_of(case);
+    let third = case.flags / 4 % 2 == 1;
     match mode {
         b'T' => stream_answers::walk(out, at, bytes, asked),
         b'O' => stream_answers::owners(out, at, bytes, asked),
-        _ => called(out, at, bytes, asked, case.flags / 4 % 2 == 1),
+        b'K' => stream_answers::kept_call(out, at, bytes, asked, third),
+        _ => called(out, at, bytes, asked, third),
     }
 }
 

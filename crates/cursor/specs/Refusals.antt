@@ -54,3 +54,6 @@ sizeCopy = 17
 
 abbrev pub wrongFile : ℕ  -- document 02, P1: "fewer than 128 bytes or wrong file magic, at 0, before all others"
 wrongFile = 18
+
+abbrev pub wrongSheet : ℕ  -- document 02, P3: "not the stream's sheet, at the first word wrong, missing or extra"; the word's number
+wrongSheet = 19

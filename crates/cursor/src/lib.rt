@@ -54,6 +54,8 @@ impl Refusal {
     pub const SIZE_COPY: u8 = 17;
 
     pub const WRONG_FILE: u8 = 18;
+
+    pub const WRONG_SHEET: u8 = 19;
 }
 
 // What a call that counts answers: how many tokens or answers there are, or a refusal. One enum for all crates.

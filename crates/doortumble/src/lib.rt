@@ -1,5 +1,5 @@
-// The C calls: a stream's sheet, its owner table, and the listing and the header of a chunk and of a whole log file. The C header is
-// include/doortumble.h.
+// The C calls: a stream's sheet, its owner table, the moves of a kept sheet, and the listing and the header of a chunk and of a whole log
+// file. The C header is include/doortumble.h.
 //
 // Each takes bytes, numbers and lent words, and answers one packed word. No call keeps anything between calls.
 use cursor::Counted;
@@ -10,7 +10,8 @@ ghost use Rattle.cursor.specs.Lent.{lentAnswer, lentLeft};
 ghost use Rattle.record.specs.Chunk.{headerWords};
 ghost use Rattle.log_file.specs.Header.{fileWords};
 ghost use Rattle.tokens.specs.Walk.{walkOf};
-ghost use Rattle.sheet.specs.Sheet.{sheetAnswer, sheetWords};
+ghost use Rattle.sheet.specs.Sheet.{wordsOf, sheetAnswer, sheetWords};
+ghost use Rattle.sheet.specs.Kept.{oldWordsOf, keptAnswer, keptWords};
 ghost use Rattle.doortumble.specs.Calls.{flagOf, flagsOf, packedOf, OwnersPacked, ListPacked, ListFilePacked};
 
 // The sheet of a stream.
@@ -27,6 +28,42 @@ pub extern "C" fn doortumble_sheet(
     ensures { λ _. ⌜ now (sheet .exit) ≡ sheetWords (walkOf (now (stream .entry)) start length (flagsOf dependencies inline)) (now (sheet .entry)) ⌝ }
 {
     packed(sheet::fill(stream, start, length, flags(dependencies, inline), sheet))
+}
+
+// The sheet of a stream from its old one, which has one word a token.
+#[no_mangle]
+pub extern "C" fn doortumble_widen(
+    stream: &[u8],
+    start: u32,
+    length: u32,
+    dependencies: u32,
+    inline: u32,
+    old: &[u64],
+    sheet: &mut [u64],
+) -> u64
+    ensures { λ r. ⌜ r ≡ packedOf (keptAnswer oldWordsOf wordsOf (walkOf (now (stream .entry)) start length (flagsOf dependencies inline)) (now (old .entry)) (now (sheet .entry))) ⌝ }
+    ensures { λ _. ⌜ now (sheet .exit) ≡ keptWords oldWordsOf wordsOf (walkOf (now (stream .entry)) start length (flagsOf dependencies inline)) (now (old .entry)) (now (sheet .entry)) ⌝ }
+{
+    let f = flags(dependencies, inline);
+    packed(kept::widen(stream, start, length, f, old, sheet))
+}
+
+// The old sheet of a stream from its new one.
+#[no_mangle]
+pub extern "C" fn doortumble_narrow(
+    stream: &[u8],
+    start: u32,
+    length: u32,
+    dependencies: u32,
+    inline: u32,
+    sheet: &[u64],
+    old: &mut [u64],
+) -> u64
+    ensures { λ r. ⌜ r ≡ packedOf (keptAnswer wordsOf oldWordsOf (walkOf (now (stream .entry)) start length (flagsOf dependencies inline)) (now (sheet .entry)) (now (old .entry))) ⌝ }
+    ensures { λ _. ⌜ now (old .exit) ≡ keptWords wordsOf oldWordsOf (walkOf (now (stream .entry)) start length (flagsOf dependencies inline)) (now (sheet .entry)) (now (old .entry)) ⌝ }
+{
+    let by = flags(dependencies, inline);
+    packed(kept::narrow(stream, start, length, by, sheet, old))
 }
 
 // The owner table of a stream that is an event body, a word a token.

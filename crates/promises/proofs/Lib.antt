@@ -11,6 +11,7 @@ pub mod OfLogFile
 pub mod OfTokens
 pub mod OfSheet
 pub mod OfBody
+pub mod OfKept
 pub mod Bodies
 pub mod Around
 pub mod OfDoortumble
@@ -25,6 +26,8 @@ pub mod FitsWalk
 pub mod Packed
 pub mod PackedFile
 pub mod PackedHeader
+pub mod Kept
+pub mod PackedKept
 pub mod PackedCalls
 pub mod EachToken
 pub mod Numbered

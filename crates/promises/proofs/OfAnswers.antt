@@ -32,6 +32,10 @@ use Rattle.stream_answers.proofs.owners.Kinds as ownersK
 use Rattle.stream_answers.proofs.owners.Reads as ownersR
 use Rattle.stream_answers.proofs.sheet_call.Kinds as sheet-callK
 use Rattle.stream_answers.proofs.sheet_call.Reads as sheet-callR
+use Rattle.stream_answers.proofs.kept_call.Kinds as kept-callK
+use Rattle.stream_answers.proofs.kept_call.Reads as kept-callR
+use Rattle.stream_answers.proofs.kept_front.Kinds as kept-frontK
+use Rattle.stream_answers.proofs.kept_front.Reads as kept-frontR
 use Rattle.stream_answers.proofs.owners_call.Kinds as owners-callK
 use Rattle.stream_answers.proofs.owners_call.Reads as owners-callR
 use Rattle.listing_text.proofs.put.Kinds as listingK
@@ -42,6 +46,7 @@ use Rattle.file_text.proofs.listing.Kinds as file-listingK
 use Rattle.file_text.proofs.listing.Reads as file-listingR
 use Rattle.file_text.proofs.answers.Kinds as file-answersK
 use Rattle.file_text.proofs.answers.Reads as file-answersR
+use Rattle.promises.proofs.One.{Single}
 
 -- the owner table's text, and the owner call's: the tokens have one answer and leave one table
 said-one : (w : Walked) (t u : List ℕ) → OwnersSaid w t → OwnersSaid w u → t ≡ u
@@ -90,6 +95,13 @@ owners κs a x y s t p q = some-one _ _ _ _ _ _ _ (λ t u. said-one _ t u) p q
 pub sheet-call : (κs : Lfts 2) (a : Dens κs sheet-callK.ps) (x y : resT sheet-callK.r κs .Denot) (s t : AtExit (endedOf 2 sheet-callK.ps sheet-callK.r) κs)
     → sheet-callR.Post κs a x s → sheet-callR.Post κs a y t → (s .0 .now ≡ t .0 .now) × (x ≡ y)
 sheet-call κs a x y s t p q = puts-one _ _ _ _ _ _ _ _ refl p q
+
+pub kept-call : (κs : Lfts 2) (a : Dens κs kept-callK.ps) (x y : resT kept-callK.r κs .Denot) (s t : AtExit (endedOf 2 kept-callK.ps kept-callK.r) κs)
+    → kept-callR.Post κs a x s → kept-callR.Post κs a y t → (s .0 .now ≡ t .0 .now) × (x ≡ y)
+kept-call κs a x y s t p q = puts-one _ _ _ _ _ _ _ _ refl p q
+
+pub kept-front : Single 1 kept-frontK.ps kept-frontK.r kept-frontR.Post
+kept-front κs a x y s t p q = p ∙ sym q
 
 pub owners-call : (κs : Lfts 2) (a : Dens κs owners-callK.ps) (x y : resT owners-callK.r κs .Denot) (s t : AtExit (endedOf 2 owners-callK.ps owners-callK.r) κs)
     → owners-callR.Post κs a x s → owners-callR.Post κs a y t → (s .0 .now ≡ t .0 .now) × (x ≡ y)

@@ -9,6 +9,10 @@ use Rattle.body.proofs.One.{one-answer}
 use Rattle.doortumble.specs.Calls.{packedOf}
 use Rattle.doortumble.proofs.doortumble_sheet.Kinds as sheetK
 use Rattle.doortumble.proofs.doortumble_sheet.Reads as sheetR
+use Rattle.doortumble.proofs.doortumble_widen.Kinds as widenK
+use Rattle.doortumble.proofs.doortumble_widen.Reads as widenR
+use Rattle.doortumble.proofs.doortumble_narrow.Kinds as narrowK
+use Rattle.doortumble.proofs.doortumble_narrow.Reads as narrowR
 use Rattle.doortumble.proofs.doortumble_owners.Kinds as ownersK
 use Rattle.doortumble.proofs.doortumble_owners.Reads as ownersR
 use Rattle.doortumble.proofs.doortumble_list.Kinds as listK
@@ -28,6 +32,14 @@ use Rattle.promises.proofs.One.{Single}
 pub sheet : (κs : Lfts 2) (a : Dens κs sheetK.ps) (x y : resT sheetK.r κs .Denot) (s t : AtExit (endedOf 2 sheetK.ps sheetK.r) κs)
     → sheetR.Post κs a x s → sheetR.Post κs a y t → (x ≡ y) × (s .1 .1 .1 .1 .1 .0 .now ≡ t .1 .1 .1 .1 .1 .0 .now)
 sheet κs a x y s t p q = (p .0 ∙ sym (q .0), p .1 ∙ sym (q .1))
+
+pub widen : (κs : Lfts 3) (a : Dens κs widenK.ps) (x y : resT widenK.r κs .Denot) (s t : AtExit (endedOf 3 widenK.ps widenK.r) κs)
+    → widenR.Post κs a x s → widenR.Post κs a y t → (x ≡ y) × (s .1 .1 .1 .1 .1 .1 .0 .now ≡ t .1 .1 .1 .1 .1 .1 .0 .now)
+widen κs a x y s t p q = (p .0 ∙ sym (q .0), p .1 ∙ sym (q .1))
+
+pub narrow : (κs : Lfts 3) (a : Dens κs narrowK.ps) (x y : resT narrowK.r κs .Denot) (s t : AtExit (endedOf 3 narrowK.ps narrowK.r) κs)
+    → narrowR.Post κs a x s → narrowR.Post κs a y t → (x ≡ y) × (s .1 .1 .1 .1 .1 .1 .0 .now ≡ t .1 .1 .1 .1 .1 .1 .0 .now)
+narrow κs a x y s t p q = (p .0 ∙ sym (q .0), p .1 ∙ sym (q .1))
 
 pub owners : (κs : Lfts 2) (a : Dens κs ownersK.ps) (x y : resT ownersK.r κs .Denot) (s t : AtExit (endedOf 2 ownersK.ps ownersK.r) κs)
     → ownersR.Post κs a x s → ownersR.Post κs a y t → (x ≡ y) × (s .1 .1 .1 .1 .1 .0 .now ≡ t .1 .1 .1 .1 .1 .0 .now)

@@ -9,7 +9,8 @@ use lib.ListN.{length}
 use Rattle.cursor.specs.Lent.{lentAnswer}
 use Rattle.record.specs.Chunk.{headerWords}
 use Rattle.tokens.specs.Walk.{walkOf}
-use Rattle.sheet.specs.Sheet.{sheetAnswer}
+use Rattle.sheet.specs.Sheet.{wordsOf, sheetAnswer}
+use Rattle.sheet.specs.Kept.{oldWordsOf, keptAnswer}
 use Rattle.body.specs.Verdict.{Answered}
 use Rattle.chunk.specs.Walk.{startOf}
 use Rattle.chunk.specs.Listing.{Lists}
@@ -18,6 +19,10 @@ use Rattle.log_file.specs.Listing.{FileLists}
 use Rattle.doortumble.specs.Calls.{flagOf, flagsOf}
 use Rattle.doortumble.proofs.doortumble_sheet.Kinds as sheetK
 use Rattle.doortumble.proofs.doortumble_sheet.Reads as sheetR
+use Rattle.doortumble.proofs.doortumble_widen.Kinds as widenK
+use Rattle.doortumble.proofs.doortumble_widen.Reads as widenR
+use Rattle.doortumble.proofs.doortumble_narrow.Kinds as narrowK
+use Rattle.doortumble.proofs.doortumble_narrow.Reads as narrowR
 use Rattle.doortumble.proofs.doortumble_owners.Kinds as ownersK
 use Rattle.doortumble.proofs.doortumble_owners.Reads as ownersR
 use Rattle.doortumble.proofs.doortumble_list.Kinds as listK
@@ -32,12 +37,25 @@ use Rattle.promises.specs.Packed.{unpackedOf, Bytes}
 use Rattle.promises.proofs.Packed.{sheet-kept, owners-told, list-told}
 use Rattle.promises.proofs.PackedFile.{list-file-told}
 use Rattle.promises.proofs.PackedHeader.{chunk-header-kept, file-header-kept}
+use Rattle.promises.proofs.PackedKept.{widen-kept, narrow-kept}
 
 pub sheet : (κs : Lfts 2) (a : Dens κs sheetK.ps) (x : resT sheetK.r κs .Denot) (s : AtExit (endedOf 2 sheetK.ps sheetK.r) κs)
     → GoodsP κs sheetK.ps a → Bytes (a .0 .now) → sheetR.Post κs a x s
     → unpackedOf x
     ≡ sheetAnswer (walkOf (a .0 .now) (a .1 .0) (a .1 .1 .0) (flagsOf (a .1 .1 .1 .0) (a .1 .1 .1 .1 .0))) (a .1 .1 .1 .1 .1 .0 .now)
 sheet κs a x s g b p = ap unpackedOf (p .0) ∙ sheet-kept (a .0 .now) b (a .1 .0) _ (g .1 .0 .1) _ _
+
+pub widen : (κs : Lfts 3) (a : Dens κs widenK.ps) (x : resT widenK.r κs .Denot) (s : AtExit (endedOf 3 widenK.ps widenK.r) κs)
+    → GoodsP κs widenK.ps a → Bytes (a .0 .now) → widenR.Post κs a x s
+    → unpackedOf x
+    ≡ keptAnswer oldWordsOf wordsOf (walkOf (a .0 .now) (a .1 .0) (a .1 .1 .0) (flagsOf (a .1 .1 .1 .0) (a .1 .1 .1 .1 .0))) (a .1 .1 .1 .1 .1 .0 .now) (a .1 .1 .1 .1 .1 .1 .0 .now)
+widen κs a x s g b p = ap unpackedOf (p .0) ∙ widen-kept (a .0 .now) b (a .1 .0) _ (g .1 .0 .1) _ _ _
+
+pub narrow : (κs : Lfts 3) (a : Dens κs narrowK.ps) (x : resT narrowK.r κs .Denot) (s : AtExit (endedOf 3 narrowK.ps narrowK.r) κs)
+    → GoodsP κs narrowK.ps a → Bytes (a .0 .now) → narrowR.Post κs a x s
+    → unpackedOf x
+    ≡ keptAnswer wordsOf oldWordsOf (walkOf (a .0 .now) (a .1 .0) (a .1 .1 .0) (flagsOf (a .1 .1 .1 .0) (a .1 .1 .1 .1 .0))) (a .1 .1 .1 .1 .1 .0 .now) (a .1 .1 .1 .1 .1 .1 .0 .now)
+narrow κs a x s g b p = ap unpackedOf (p .0) ∙ narrow-kept (a .0 .now) b (a .1 .0) _ (g .1 .0 .1) _ _ _
 
 pub owners : (κs : Lfts 2) (a : Dens κs ownersK.ps) (x : resT ownersK.r κs .Denot) (s : AtExit (endedOf 2 ownersK.ps ownersK.r) κs)
     → GoodsP κs ownersK.ps a → Bytes (a .0 .now) → ownersR.Post κs a x s

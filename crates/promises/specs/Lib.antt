@@ -6,3 +6,4 @@ pub mod Packed
 pub mod Bodies
 pub mod Words
 pub mod Told
+pub mod Kept

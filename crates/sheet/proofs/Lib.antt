@@ -2,3 +2,4 @@
 pub mod Noting
 pub mod Laying
 pub mod OldWord
+pub mod Keeping

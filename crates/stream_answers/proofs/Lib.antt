@@ -4,3 +4,4 @@ pub mod Walking
 pub mod Listing
 pub mod Signed
 pub mod Lending
+pub mod Stored

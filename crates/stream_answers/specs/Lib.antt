@@ -3,3 +3,4 @@ pub mod Content
 pub mod Token
 pub mod Walk
 pub mod Modes
+pub mod Kept

@@ -82,7 +82,7 @@ fn stream_of(bytes: &[u8]) -> &[u8]
 }
 
 // The answer's word.
-fn said(out: &mut [u8], at: usize, word: u64) -> usize
+pub(crate) fn said(out: &mut [u8], at: usize, word: u64) -> usize
     ensures { λ r. ⌜ Puts (answerText word) (now (out .entry)) at (now (out .exit)) r ⌝ }
 {
     let a = print::text(out, at, b"answer ");
@@ -90,7 +90,7 @@ fn said(out: &mut [u8], at: usize, word: u64) -> usize
     print::byte(out, b, b'\n')
 }
 
-fn sheet_line(out: &mut [u8], at: usize, words: &[u64]) -> usize
+pub(crate) fn sheet_line(out: &mut [u8], at: usize, words: &[u64]) -> usize
     ensures { λ r. ⌜ Puts (wordsText (now (words .entry))) (now (out .entry)) at (now (out .exit)) r ⌝ }
 {
     let a = print::text(out, at, b"words");

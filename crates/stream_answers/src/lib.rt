@@ -1,8 +1,9 @@
-// The answers of the batch's modes that read a token stream: the walk (T), the single instance (S), the owner table (O) and the C calls
-// (C). Each function puts its lines into a lent buffer, behind what is there.
+// The answers of the batch's modes that read a token stream: the walk (T), the single instance (S), the owner table (O), the C calls (C) and
+// the moves of a kept sheet (K). Each function puts its lines into a lent buffer, behind what is there.
 mod call;
 mod content;
 mod field;
+mod keeping;
 mod token;
 
 use cursor::Counted;
@@ -10,11 +11,14 @@ use tokens::Ends;
 use tokens::Flags;
 use tokens::SingleInstance;
 use tokens::Window;
-ghost use Prim.Native.Nat.{_-_, _^_};
+ghost use mathlib.Core.Path.{_≡_};
+ghost use Prim.Native.Nat.{_+_, _-_, _*_, _^_};
+ghost use Rattle.cursor.specs.Reads.{numberOf};
 ghost use Rattle.tokens.specs.Single.{singleAnswer, endsAnswer};
 ghost use Rattle.print.specs.Text.{ascii, Puts, PutsSome, lineOf};
 ghost use Rattle.stream_answers.specs.Walk.{walkText};
 ghost use Rattle.stream_answers.specs.Modes.{askedWalk, singleText, endsText, singleLines, OwnersSaid, sheetText, OwnersCalled, lentWords, streamOf};
+ghost use Rattle.stream_answers.specs.Kept.{givenWords, keptStream, keptText};
 
 // What of a stream is asked for, and how it is read.
 pub struct Asked {
@@ -25,6 +29,9 @@ pub struct Asked {
 
 // A C call's data begins with how many words are lent, in so many bytes.
 pub const ROOM: usize = 4;
+
+// Mode K's begins with how many words are lent and how many are given.
+pub const KEPT: usize = 8;
 
 // The most words that are lent.
 const MOST: usize = 65536;
@@ -98,4 +105,18 @@ pub fn owners_call(out: &mut [u8], at: usize, bytes: &[u8], asked: Asked) -> usi
 {
     let mut words = [0xFFFF_FFFFu32; MOST];
     call::owners_of(out, at, bytes, asked, &mut words)
+}
+
+// Mode K: what the calls on a kept sheet answer on lent words, and what they leave there.
+pub fn kept_call(out: &mut [u8], at: usize, bytes: &[u8], asked: Asked, narrow: bool) -> usize
+    ensures { λ r. ⌜ Puts (keptText narrow (askedWalk (keptStream (now (bytes .entry))) asked) (givenWords (now (bytes .entry))) (lentWords (now (bytes .entry)) (2 ^ 64 - 1))) (now (out .entry)) at (now (out .exit)) r ⌝ }
+{
+    keeping::called(out, at, bytes, asked, narrow)
+}
+
+// How much data a case of mode K has before its stream, as its front says.
+pub fn kept_front(bytes: &[u8]) -> usize
+    ensures { λ r. ⌜ r ≡ 8 + 8 * numberOf (now (bytes .entry)) 4 4 ⌝ }
+{
+    KEPT + 8 * (cursor::u32_at(bytes, 4) as usize)
 }

@@ -1,0 +1,2 @@
+-- The definitions that the contracts of `kept` cite, beside those of `sheet`.
+pub mod Narrow
