@@ -123,6 +123,24 @@ bool kept_sheets()
     return so;
 }
 
+bool announced()
+{
+    // An open token that announces attributes, an attribute, close empty; and one that announces none before the same.
+    const uint8_t stream[] = {0x41, 0, 0, 0, 0, 0x00, 0x02, 0, 0, 0, 0, 0, 0, 0x06, 0x00, 0x02, 0, 0, 0x03};
+    const uint8_t plain[] = {0x01, 0, 0, 0, 0, 0x00, 0x02, 0, 0, 0x06, 0x00, 0x02, 0, 0, 0x03};
+    uint32_t table[4] = {7, 7, 7, 7};
+    bool so = true;
+
+    so &= refuses("an attribute that was not announced", doortumble_owners(plain, sizeof plain, 0, sizeof plain, 0, 0, table, 4),
+                  DOORTUMBLE_DISAGREE, 1);
+    so &= holds("a refusal leaves the table", table[0] == 7 && table[1] == 7 && table[2] == 7);
+    so &= holds("its place is a token", doortumble_place_is(DOORTUMBLE_DISAGREE)[0] == 't');
+    so &= refuses("what is announced may come", doortumble_owners(stream, 13, 0, 13, 0, 0, table, 4), DOORTUMBLE_UNFINISHED, 1);
+    so &= counts("announced and present", doortumble_owners(stream, sizeof stream, 0, sizeof stream, 0, 0, table, 4), 3);
+    so &= holds("the owner is the open token", table[0] == 0 && table[1] == 1 && table[2] == 1 && table[3] == 7);
+    return so;
+}
+
 bool pairs()
 {
     // A PI target with its data, an empty element, and a target with its data again.
@@ -276,7 +294,7 @@ bool chunk_header()
 
 int main()
 {
-    const bool so[] = {nothing_lent(), empty_element(), kept_sheets(), pairs(), flags(), whole_file(), file_header(), chunk_header()};
+    const bool so[] = {nothing_lent(), empty_element(), kept_sheets(), announced(), pairs(), flags(), whole_file(), file_header(), chunk_header()};
 
     for (const bool one : so)
         if (!one)

@@ -69,7 +69,8 @@ enum {
     DOORTUMBLE_NO_ROOM = 16,        // lent words too few; place: words needed
     DOORTUMBLE_SIZE_COPY = 17,      // a record's size copy differs; place: the record's offset (no call here answers it)
     DOORTUMBLE_WRONG_FILE = 18,     // fewer than 128 bytes, or wrong file magic; place: 0
-    DOORTUMBLE_WRONG_SHEET = 19     // not the stream's sheet; place: number of the first word wrong, missing or extra
+    DOORTUMBLE_WRONG_SHEET = 19,    // not the stream's sheet; place: number of the first word wrong, missing or extra
+    DOORTUMBLE_DISAGREE = 20        // attribute bit and attributes disagree; place: token number
 };
 
 // Why, in words, for the person who has to act on it.
@@ -115,6 +116,8 @@ static inline const char *doortumble_why(unsigned number)
     case DOORTUMBLE_WRONG_SHEET:
         return "the sheet given is not this stream's: from the word at the place on it was changed, cut or made longer, or it was made "
                "with another start, length or flags";
+    case DOORTUMBLE_DISAGREE:
+        return "an element has attributes that its open token does not announce, or lacks the ones that it announces";
     default:
         return "there is no such refusal: this header does not belong to the library that was linked";
     }
@@ -127,6 +130,7 @@ static inline const char *doortumble_place_is(unsigned number)
     switch (number) {
     case DOORTUMBLE_NO_BODY:
     case DOORTUMBLE_TOO_DEEP:
+    case DOORTUMBLE_DISAGREE:
         return "token";
     case DOORTUMBLE_UNFINISHED:
         return "tokens";
@@ -508,12 +512,13 @@ uint64_t doortumble_narrow(const uint8_t *stream, size_t stream_len, uint32_t st
 
 // Read a stream as one event body, and tell of each token which token it belongs to. The tokens are those of the sheet, in the
 // same order. A body is one element or one instance, its root; before the root a PI target with its data may stand, and one after.
+// An element has attributes exactly where its open token announces them.
 //
 //   stream to inline_names   as for doortumble_sheet
 //   table, table_len         lent for the owner table, and its length in words; DOORTUMBLE_MOST_TOKENS is always enough
 //
 // Answer: how many tokens there are, with a word for each in the table, or a refusal: those of doortumble_sheet, and before 16
-// also 13, 14 or 15 where the tokens are no event body. 16 comes last: a stream that is refused otherwise is refused so for any
+// also 13, 14, 15 or 20 where the tokens are no event body. 16 comes last: a stream that is refused otherwise is refused so for any
 // table, a null one too.
 //
 // A refusal leaves the table as it was; words past the last token's stay. Nothing is kept or allocated, at most 1 MiB of stack

@@ -1,12 +1,12 @@
-//! The machine that answers mode O, held to document 01's grammar with document 02's request P4 as bodies.rs writes it down: on every
+//! The machine that answers mode O, held to document 01's grammar with document 02's requests P4 and P5 as bodies.rs writes it down: on every
 //! list of kinds up to a length, on made bodies, and at the real limit of levels.
 
 use compare::cases::lists;
 use compare::cases::random::Random;
-use compare::oracle::bodies::{bodies, by_definition, each_body, enough};
+use compare::oracle::bodies::{Rule, begins, bodies, by_definition, each_body, enough};
 use compare::oracle::kinds::{
-    ALL, CLOSE_ELEMENT, CLOSE_EMPTY, CLOSE_START, INSTANCE, ONE_ITEM, OPEN, PI_DATA, PI_TARGET,
-    VALUE,
+    ALL, ANNOUNCING, ATTRIBUTE, CLOSE_ELEMENT, CLOSE_EMPTY, CLOSE_START, INSTANCE, ONE_ITEM, OPEN,
+    PI_DATA, PI_TARGET, VALUE,
 };
 use compare::oracle::owners::{MOST_LEVELS, owners};
 use compare::oracle::refusal::Refusal;
@@ -20,6 +20,7 @@ struct Seen {
     refused_13: usize,
     refused_14: usize,
     refused_15: usize,
+    refused_20: usize,
 }
 
 fn every_list(alphabet: &[u8], most: usize) -> impl Iterator<Item = Vec<u8>> {
@@ -29,8 +30,22 @@ fn every_list(alphabet: &[u8], most: usize) -> impl Iterator<Item = Vec<u8>> {
 /// Holds the machine to the definition on every list of the alphabet up to a length.
 fn agree(alphabet: &[u8], most: usize, most_levels: usize) -> Seen {
     let mut seen = Seen::default();
+    // "The first token where 13, 14 or 20 holds counts": every list that begins with the tokens through it has its refusal.
+    let mut through: Option<(Vec<u8>, Refusal)> = None;
     for kinds in every_list(alphabet, most) {
-        let said = by_definition(&kinds, most_levels, alphabet);
+        let said = match &through {
+            Some((front, refusal)) if kinds.starts_with(front) => Err(*refusal),
+            _ => by_definition(&kinds, most_levels, alphabet),
+        };
+        if let Err(
+            refusal @ Refusal {
+                number: 13 | 14 | 20,
+                place,
+            },
+        ) = said
+        {
+            through = Some((kinds[..=place as usize].to_vec(), refusal));
+        }
         seen.lists += 1;
         match &said {
             Ok(tables) => {
@@ -39,8 +54,13 @@ fn agree(alphabet: &[u8], most: usize, most_levels: usize) -> Seen {
             }
             Err(Refusal { number: 13, .. }) => seen.refused_13 += 1,
             Err(Refusal { number: 14, .. }) => seen.refused_14 += 1,
+            Err(Refusal { number: 20, place }) => {
+                seen.refused_20 += 1;
+                assert!(disagrees(&kinds, *place as usize), "{kinds:?}");
+            }
             Err(_) => seen.refused_15 += 1,
         }
+        only_where_they_disagree(&kinds, &said);
         let answer = owners(&kinds, most_levels).map(|table| BTreeSet::from([table]));
         assert_eq!(answer, said, "{kinds:?} with {most_levels} levels");
     }
@@ -51,17 +71,39 @@ fn agree(alphabet: &[u8], most: usize, most_levels: usize) -> Seen {
     seen
 }
 
+/// An attribute right after an open token that announces none, or a close start or close empty right after one that announces some.
+fn disagrees(kinds: &[u8], number: usize) -> bool {
+    let before = number.checked_sub(1).map(|before| kinds[before]);
+    match kinds[number] {
+        ATTRIBUTE => before == Some(OPEN),
+        CLOSE_START | CLOSE_EMPTY => before == Some(ANNOUNCING),
+        _ => false,
+    }
+}
+
+/// What is accepted, or refused at a place, has no such token before.
+fn only_where_they_disagree(kinds: &[u8], said: &Result<BTreeSet<Vec<u32>>, Refusal>) {
+    let read = match said {
+        Ok(_) => kinds.len(),
+        Err(refusal) => refusal.place as usize,
+    };
+    assert!(
+        !(0..read).any(|number| disagrees(kinds, number)),
+        "{kinds:?}"
+    );
+}
+
 #[test]
 fn all_kinds() {
-    let seen = agree(&ALL, 5, MOST_LEVELS);
-    assert_eq!((seen.lists, seen.bodies), (402_234, 86));
+    let seen = agree(&ALL, 4, MOST_LEVELS);
+    assert_eq!((seen.lists, seen.bodies), (41_371, 19));
 }
 
 /// The four items of an attribute are one kind here.
 #[test]
 fn one_item() {
     let seen = agree(&ONE_ITEM, 6, MOST_LEVELS);
-    assert_eq!(seen.lists, 1_111_111);
+    assert_eq!(seen.lists, 1_948_717);
 }
 
 /// These take minutes: `cargo test --release -- --ignored`.
@@ -69,9 +111,11 @@ fn one_item() {
 #[ignore = "takes minutes"]
 fn longer() {
     let seen = agree(&ONE_ITEM, 7, MOST_LEVELS);
-    assert_eq!((seen.lists, seen.bodies), (11_111_111, 232));
+    assert_eq!(seen.lists, 21_435_888);
+    let seen = agree(&ALL, 5, MOST_LEVELS);
+    assert_eq!((seen.lists, seen.bodies), (579_195, 86));
     let seen = agree(&ALL, 6, MOST_LEVELS);
-    assert_eq!(seen.lists, 5_229_043);
+    assert_eq!(seen.lists, 8_108_731);
 }
 
 /// Refusal 14 at low limits.
@@ -93,6 +137,25 @@ fn tags() {
     }
 }
 
+/// What opens and fills a tag, alone: both open tokens, attributes with and without a value, both ways to close.
+#[test]
+fn announced() {
+    let tags = [
+        OPEN,
+        ANNOUNCING,
+        ATTRIBUTE,
+        VALUE,
+        CLOSE_START,
+        CLOSE_EMPTY,
+        CLOSE_ELEMENT,
+    ];
+    for most_levels in [1, 2, MOST_LEVELS] {
+        let seen = agree(&tags, 6, most_levels);
+        assert!(seen.bodies > 0 && seen.refused_13 > 0 && seen.refused_15 > 0);
+        assert!(seen.refused_20 > 0);
+    }
+}
+
 /// What stands around the root, and the shortest roots: long enough for two pairs on either side.
 #[test]
 fn around() {
@@ -110,18 +173,21 @@ fn around() {
 #[test]
 fn continuations() {
     let mut begun = 0;
-    for kinds in every_list(&ONE_ITEM, 4) {
-        let begins = each_body(&kinds, enough(kinds.len()), &ONE_ITEM, &mut |_| true);
-        let mut opened = BTreeSet::new();
-        each_body(&kinds, enough(kinds.len()) + 1, &ONE_ITEM, &mut |body| {
-            let mut levels = body.levels().into_iter();
-            opened.insert(levels.find(|(open, _)| open + 1 == kinds.len()));
-            false
-        });
-        assert_eq!(opened.len(), usize::from(begins), "{kinds:?}");
-        begun += usize::from(begins);
+    for rule in [Rule::Wide, Rule::Narrow] {
+        for kinds in every_list(&ONE_ITEM, 3) {
+            let begins = begins(&kinds, rule, &ONE_ITEM);
+            let more = enough(kinds.len(), rule) + 1;
+            let mut opened = BTreeSet::new();
+            each_body(&kinds, rule, more, &ONE_ITEM, &mut |body| {
+                let mut levels = body.levels().into_iter();
+                opened.insert(levels.find(|(open, _)| open + 1 == kinds.len()));
+                false
+            });
+            assert_eq!(opened.len(), usize::from(begins), "{kinds:?}");
+            begun += usize::from(begins);
+        }
     }
-    println!("{begun} lists of up to 4 tokens begin a body");
+    println!("{begun} lists of up to 3 tokens begin a body");
 }
 
 /// Made bodies of many tokens: each can be read in one way, and the machine gives its owner table.
@@ -134,13 +200,18 @@ fn made_bodies() {
         let levels = random.between(1, 7);
         let mut list = lists::body(&mut random, levels);
         longest = longest.max(list.len());
-        let ways = bodies(&list);
+        let ways = bodies(&list, Rule::Narrow);
         assert_eq!(ways.len(), 1, "{list:?}");
         assert!(ways[0].depth() <= levels);
+        // By the wide grammar it is a body too, with the same table.
+        let wide = bodies(&list, Rule::Wide);
+        assert_eq!(wide.len(), 1, "{list:?}");
+        assert_eq!(wide[0].owners(list.len()), ways[0].owners(list.len()));
         assert_eq!(owners(&list, MOST_LEVELS), Ok(ways[0].owners(list.len())));
 
         lists::change(&mut random, &mut list);
-        let table = bodies(&list).first().map(|body| body.owners(list.len()));
+        let changed = bodies(&list, Rule::Narrow);
+        let table = changed.first().map(|body| body.owners(list.len()));
         changed_bodies += usize::from(table.is_some());
         assert_eq!(owners(&list, MOST_LEVELS).ok(), table, "{list:?}");
     }
@@ -168,7 +239,7 @@ fn real_limit() {
             .collect();
         whole.extend(led);
         for list in whole {
-            let ways = bodies(&list);
+            let ways = bodies(&list, Rule::Narrow);
             assert_eq!(ways.len(), 1);
             let opened = ways[0].levels().into_iter();
             let too_deep = opened
@@ -199,14 +270,14 @@ fn real_limit() {
 fn owners_by_hand() {
     use compare::oracle::kinds::*;
     let body = [
-        OPEN,
+        ANNOUNCING,
         ATTRIBUTE,
         VALUE,
         ENTITY_REF,
         ATTRIBUTE,
         CLOSE_START,
         CDATA,
-        OPEN,
+        ANNOUNCING,
         ATTRIBUTE,
         SUBSTITUTION,
         CLOSE_EMPTY,
@@ -217,7 +288,7 @@ fn owners_by_hand() {
     ];
     let table = vec![0, 1, 2, 2, 1, 1, 1, 1, 8, 9, 8, 1, 1, 1, 1];
     assert_eq!(owners(&body, MOST_LEVELS), Ok(table.clone()));
-    let ways = bodies(&body);
+    let ways = bodies(&body, Rule::Narrow);
     assert_eq!(ways.len(), 1);
     assert_eq!(ways[0].owners(body.len()), table);
     assert_eq!(owners(&[INSTANCE], MOST_LEVELS), Ok(vec![0]));
@@ -261,6 +332,55 @@ fn pairs_by_hand() {
         (&[I, D], 13, 1),
         (&[I, T, I], 13, 2),
         (&[I, T, D, T], 13, 3),
+    ];
+    for (list, number, place) in refused {
+        let refusal = Err(Refusal::new(number, place));
+        assert_eq!(owners(list, MOST_LEVELS), refusal, "{list:?}");
+    }
+}
+
+/// By hand: what document 02's request P5 says, and the smallest list for each pair of refusals that might meet.
+#[test]
+fn announced_by_hand() {
+    const O: u8 = OPEN;
+    const N: u8 = ANNOUNCING;
+    const A: u8 = ATTRIBUTE;
+    const S: u8 = CLOSE_START;
+    const E: u8 = CLOSE_EMPTY;
+    const C: u8 = CLOSE_ELEMENT;
+    let bodies: [(&[u8], &[u32]); 4] = [
+        (&[O, E], &[0, 1]),
+        (&[N, A, E], &[0, 1, 1]),
+        (&[N, A, VALUE, A, E], &[0, 1, 2, 1, 1]),
+        (&[O, S, N, A, S, C, C], &[0, 1, 1, 3, 3, 3, 1]),
+    ];
+    for (list, table) in bodies {
+        assert_eq!(owners(list, MOST_LEVELS), Ok(table.to_vec()), "{list:?}");
+    }
+    // 64 levels, and a level less.
+    let deepest = [O, S].repeat(64);
+    let above = &deepest[..126];
+    let refused: [(&[u8], u8, u64); 13] = [
+        // "An open byte of 01 followed by an attribute is refused at the attribute."
+        (&[O, A], 20, 1),
+        (&[O, A, E], 20, 1),
+        // "41 followed by a close without any is refused at that close token."
+        (&[N, S], 20, 1),
+        (&[N, E], 20, 1),
+        // 13 and 20: no body of either grammar begins like this, and 13 comes first.
+        (&[N, C], 13, 1),
+        (&[N, VALUE], 13, 1),
+        (&[N, O], 13, 1),
+        // 15 and 20: all that is missing may come; nothing mends what disagrees.
+        (&[N], 15, 1),
+        (&[N, A], 15, 2),
+        // 13 and 14: the 65th open token, but in the 64th tag.
+        (&[above, &[O, O]].concat(), 13, 127),
+        // 14 and 20: the first token counts.
+        (&[&deepest[..], &[N, E]].concat(), 14, 128),
+        (&[above, &[N, S, O]].concat(), 20, 127),
+        // 14 and 15.
+        (&[&deepest[..], &[O]].concat(), 14, 128),
     ];
     for (list, number, place) in refused {
         let refusal = Err(Refusal::new(number, place));

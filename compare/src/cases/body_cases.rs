@@ -7,8 +7,8 @@ use super::random::Random;
 use super::streams::{self, FRAGMENT, Stream, shortest_of_list};
 use super::token_cases::{self, case, flags, window};
 use crate::oracle::kinds::{
-    ALL, CLOSE_ELEMENT, CLOSE_EMPTY, CLOSE_START, INSTANCE, ITEMS, ONE_ITEM, OPEN, PI_DATA,
-    PI_TARGET, VALUE,
+    ALL, ANNOUNCING, CLOSE_ELEMENT, CLOSE_EMPTY, CLOSE_START, INSTANCE, ITEMS, ONE_ITEM, OPEN,
+    PI_DATA, PI_TARGET, VALUE,
 };
 
 /// The flag of mode C that asks for the owner call.
@@ -63,14 +63,16 @@ fn body(random: &mut Random) -> Vec<Case> {
     cases
 }
 
-/// Tokens in any order, or an instance with anything after it or in an element, or a pair with anything after it.
+/// Tokens in any order, or an instance with anything after it or in an element, or a pair or an open token with anything after it.
 fn any_tokens(random: &mut Random) -> Vec<Case> {
-    let mut list: Vec<u8> = match random.below(6) {
+    let mut list: Vec<u8> = match random.below(8) {
         0 => vec![INSTANCE],
         1 => vec![OPEN, CLOSE_START, INSTANCE],
         2 => vec![OPEN, CLOSE_START],
         3 => vec![PI_TARGET, PI_DATA],
         4 => vec![INSTANCE, PI_TARGET, PI_DATA],
+        5 => vec![OPEN],
+        6 => vec![ANNOUNCING],
         _ => Vec::new(),
     };
     for _ in 0..random.below(8) {
@@ -208,7 +210,7 @@ fn room(random: &mut Random, flags: u8, tokens: usize) -> u32 {
 
 /// Every short list of tokens, each token as short as can be: all kinds up to four tokens, and for
 /// five and six with one item for the four. The first ones also with fragment headers and as C
-/// calls, and with names and attributes that the sheet shows.
+/// calls, and with names that the sheet shows.
 pub fn short_lists() -> impl Iterator<Item = Case> {
     let calls = (0..=2).flat_map(|length| lists::every(&ALL, length).flat_map(|list| calls(&list)));
     let shown = (0..=3).flat_map(|length| lists::every(&ALL, length).map(|list| shown(&list)));
@@ -243,8 +245,7 @@ pub fn calls(list: &[u8]) -> Vec<Case> {
     cases
 }
 
-/// The sheet call, with one word more than is needed, where each open token announces attributes and each name has an offset of
-/// its own above the stream's end.
+/// The sheet call, with one word more than is needed, where each name has an offset of its own above the stream's end.
 pub fn shown(list: &[u8]) -> Case {
     let mut stream = Vec::new();
     for (&kind, number) in list.iter().zip(0_u32..) {

@@ -1,9 +1,9 @@
-//! Lists of token kinds: bodies of document 01's grammar with document 02's request P4, changed ones, and all short ones.
+//! Lists of token kinds: bodies of document 01's grammar with document 02's requests P4 and P5, changed ones, and all short ones.
 
 use super::random::Random;
 use crate::oracle::kinds::{
-    ALL, ATTRIBUTE, CDATA, CLOSE_ELEMENT, CLOSE_EMPTY, CLOSE_START, INSTANCE, ITEMS, OPEN, PI_DATA,
-    PI_TARGET,
+    ALL, ANNOUNCING, ATTRIBUTE, CDATA, CLOSE_ELEMENT, CLOSE_EMPTY, CLOSE_START, INSTANCE, ITEMS,
+    OPEN, PI_DATA, PI_TARGET,
 };
 
 /// A body: an instance, or an element with so many levels at most, and now and then a pair before and after it.
@@ -26,10 +26,16 @@ fn pair(random: &mut Random, list: &mut Vec<u8>) {
     }
 }
 
+/// The open token of an element with attributes, or of one without.
+fn open(attributes: bool) -> u8 {
+    if attributes { ANNOUNCING } else { OPEN }
+}
+
 /// Adds an element with so many levels at most.
 pub fn element(random: &mut Random, levels: usize, list: &mut Vec<u8>) {
-    list.push(OPEN);
-    for _ in 0..random.below(3) {
+    let attributes = random.below(3);
+    list.push(open(attributes > 0));
+    for _ in 0..attributes {
         list.push(ATTRIBUTE);
         for _ in 0..random.below(3) {
             list.push(random.one_of(&ITEMS));
@@ -70,8 +76,9 @@ pub fn nested(levels: usize, inner: &[u8]) -> Vec<u8> {
 pub fn deep(random: &mut Random, levels: usize) -> Vec<u8> {
     let (mut before, mut after) = (Vec::new(), Vec::new());
     for level in 1..=levels {
-        before.push(OPEN);
-        if random.once_in(8) {
+        let attribute = random.once_in(8);
+        before.push(open(attribute));
+        if attribute {
             before.extend([ATTRIBUTE, random.one_of(&ITEMS)]);
         }
         if level == levels && random.once_in(2) {
@@ -93,8 +100,8 @@ pub fn deep(random: &mut Random, levels: usize) -> Vec<u8> {
     before
 }
 
-/// One change: a token dropped, doubled, swapped with the next, put in or made another, or the list
-/// cut.
+/// One change: a token dropped, doubled, swapped with the next, put in or made another, an open token that announces otherwise, or the
+/// list cut.
 pub fn change(random: &mut Random, list: &mut Vec<u8>) {
     let any = random.one_of(&ALL);
     if list.is_empty() {
@@ -102,16 +109,27 @@ pub fn change(random: &mut Random, list: &mut Vec<u8>) {
         return;
     }
     let at = random.below(list.len());
-    match random.below(8) {
+    match random.below(10) {
         0 | 1 => {
             list.remove(at);
         }
+        8 | 9 => announce_otherwise(random, list),
         2 => list.insert(at, list[at]),
         3 if at + 1 < list.len() => list.swap(at, at + 1),
         4 => list.truncate(at),
         5 => list.insert(at, any),
         6 => list.push(any),
         _ => list[at] = any,
+    }
+}
+
+/// An open token announces what it did not, or nothing any more.
+fn announce_otherwise(random: &mut Random, list: &mut [u8]) {
+    let is_open = |&at: &usize| [OPEN, ANNOUNCING].contains(&list[at]);
+    let opens: Vec<usize> = (0..list.len()).filter(is_open).collect();
+    if !opens.is_empty() {
+        let at = random.one_of(&opens);
+        list[at] = open(list[at] == OPEN);
     }
 }
 

@@ -9,15 +9,15 @@ use super::stored_tokens::{DOCUMENT, NAMES, REFUSED, Sample, WHOLE, hex, moved};
 use super::streams::shortest_of_list;
 use super::token_cases::case;
 use crate::oracle::kinds::{
-    ALL, ATTRIBUTE, CDATA, CHAR_REF, CLOSE_ELEMENT, CLOSE_EMPTY, CLOSE_START, ENTITY_REF, INSTANCE,
-    OPEN, PI_DATA, PI_TARGET, SUBSTITUTION, VALUE,
+    ALL, ANNOUNCING, ATTRIBUTE, CDATA, CHAR_REF, CLOSE_ELEMENT, CLOSE_EMPTY, CLOSE_START,
+    ENTITY_REF, INSTANCE, OPEN, PI_DATA, PI_TARGET, SUBSTITUTION, VALUE,
 };
 
 /// A body with every token in every place where it may stand.
 const EVERY_TOKEN: [u8; 40] = [
     PI_TARGET,
     PI_DATA,
-    OPEN,
+    ANNOUNCING,
     ATTRIBUTE,
     ATTRIBUTE,
     VALUE,
@@ -36,11 +36,11 @@ const EVERY_TOKEN: [u8; 40] = [
     PI_DATA,
     OPEN,
     CLOSE_EMPTY,
-    OPEN,
+    ANNOUNCING,
     ATTRIBUTE,
     ENTITY_REF,
     CLOSE_EMPTY,
-    OPEN,
+    ANNOUNCING,
     ATTRIBUTE,
     CLOSE_START,
     OPEN,
@@ -152,7 +152,10 @@ fn short_lists() -> Vec<Case> {
     put(&[], 1);
     put(&[], 2);
     put(&[OPEN], 2);
-    put(&[OPEN, ATTRIBUTE], 2);
+    put(&[OPEN, ATTRIBUTE], 1);
+    put(&[ANNOUNCING], 2);
+    put(&[ANNOUNCING, ATTRIBUTE], 2);
+    put(&[OPEN, CLOSE_START, ANNOUNCING], 1);
     put(&[OPEN, CLOSE_START], 2);
     put(&[OPEN, CLOSE_START, PI_TARGET], 1);
     put(&[OPEN, CLOSE_START, OPEN, CLOSE_EMPTY], 1);
@@ -181,7 +184,7 @@ fn short_lists() -> Vec<Case> {
 }
 
 /// The body of every token: as it is, in fragments, with each token dropped, doubled, swapped with
-/// the next one, and cut before it.
+/// the next one, and cut before it, and with each open token that announces otherwise.
 fn changed() -> Vec<Case> {
     let mut cases = vec![fragments(&EVERY_TOKEN)];
     let mut put = |list: &[u8]| cases.push(owners(&shortest_of_list(list)));
@@ -194,12 +197,18 @@ fn changed() -> Vec<Case> {
         if back.len() > 1 {
             put(&[front, &[back[1], back[0]], &back[2..]].concat());
         }
+        match back[0] {
+            OPEN => put(&[front, &[ANNOUNCING], &back[1..]].concat()),
+            ANNOUNCING => put(&[front, &[OPEN], &back[1..]].concat()),
+            _ => {}
+        }
     }
     cases
 }
 
 /// Elements as deep as may be, and deeper: cut after the open token, whole, with something in the
-/// innermost, and with a token that no body has there.
+/// innermost, with a token that no body has there, and with an innermost that announces attributes and has none, or has one and announces
+/// none.
 fn levels() -> Vec<Case> {
     let mut cases = Vec::new();
     for levels in [1, 2, 63, 64, 65, 66] {
@@ -210,6 +219,10 @@ fn levels() -> Vec<Case> {
         put(&whole[..open]);
         put(&nested(levels, &[VALUE]));
         put(&[&whole[..open - 1], &[CLOSE_START], &whole[open..]].concat());
+        put(&[&whole[..open - 1], &[ANNOUNCING], &whole[open..]].concat());
+        put(&[&whole[..open - 1], &[ANNOUNCING, CLOSE_START, OPEN]].concat());
+        put(&[&whole[..open], &[ATTRIBUTE], &whole[open..]].concat());
+        put(&[&whole[..open - 1], &[ANNOUNCING, ATTRIBUTE], &whole[open..]].concat());
         // A pair opens no level.
         put(&[&[PI_TARGET, PI_DATA], &whole[..open]].concat());
         put(&[&[PI_TARGET, PI_DATA], &whole[..], &[PI_TARGET, PI_DATA]].concat());
@@ -232,6 +245,9 @@ fn rooms() -> Vec<Case> {
         &[INSTANCE],
         &[OPEN, CLOSE_EMPTY],
         &[OPEN],
+        &[OPEN, ATTRIBUTE, CLOSE_EMPTY],
+        &[ANNOUNCING, CLOSE_EMPTY],
+        &[ANNOUNCING, ATTRIBUTE, VALUE, CLOSE_EMPTY],
         &[VALUE, VALUE, VALUE],
         &[PI_TARGET, PI_DATA],
         &[PI_TARGET, PI_DATA, INSTANCE],

@@ -93,6 +93,7 @@ pub fn shortest(kind: u8) -> &'static [u8] {
     match kind {
         kinds::INSTANCE => &[0x0c, 0, 0, 0, 0, 0, 0, 0, 0, 0, 0, 0, 0, 0],
         kinds::OPEN => &[0x01, 0, 0, 0, 0, 0, 0, 0, 0],
+        kinds::ANNOUNCING => &[0x41, 0, 0, 0, 0, 0, 0, 0, 0, 0, 0, 0, 0],
         kinds::CLOSE_START => &[0x02],
         kinds::CLOSE_EMPTY => &[0x03],
         kinds::CLOSE_ELEMENT => &[0x04],
@@ -108,15 +109,11 @@ pub fn shortest(kind: u8) -> &'static [u8] {
     }
 }
 
-/// A short token of a kind, in which an open token announces attributes and a name has this offset.
+/// A short token of a kind, in which a name has this offset.
 pub fn shown(kind: u8, name: u32) -> Vec<u8> {
     let mut token = shortest(kind).to_vec();
     let at = match kind {
-        kinds::OPEN => {
-            token[0] = 0x41;
-            token.extend([0; 4]);
-            5
-        }
+        kinds::OPEN | kinds::ANNOUNCING => 5,
         kinds::ATTRIBUTE | kinds::ENTITY_REF | kinds::PI_TARGET => 1,
         _ => return token,
     };
@@ -317,7 +314,8 @@ impl<'a> Maker<'a> {
         self.mark();
         match kind {
             kinds::INSTANCE => self.instance(levels),
-            kinds::OPEN => self.open(),
+            kinds::OPEN => self.open(0x01),
+            kinds::ANNOUNCING => self.open(0x41),
             kinds::CLOSE_START => self.put(&[0x02]),
             kinds::CLOSE_EMPTY => self.put(&[0x03]),
             kinds::CLOSE_ELEMENT => self.put(&[0x04]),
@@ -338,8 +336,7 @@ impl<'a> Maker<'a> {
         self.put(&[0x0f, 1, 1, flags]);
     }
 
-    fn open(&mut self) {
-        let token = self.random.one_of(&[0x01, 0x41]);
+    fn open(&mut self, token: u8) {
         self.put(&[token]);
         if self.stream.dependencies != self.slip() {
             let any = self.random.word() as u16;

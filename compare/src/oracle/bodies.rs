@@ -1,16 +1,23 @@
-//! Document 01's grammar over lists of token kinds, with document 02's request P4, and what follows from it by definition alone.
+//! Document 01's grammar over lists of token kinds, with document 02's requests P4 and P5, and what follows from it by definition alone.
 //!
-//! The sentences of 'Grammar' and of P4 are written down one by one, as a reader that lists every way in which
+//! The sentences of 'Grammar', of P4 and of P5 are written down one by one, as a reader that lists every way in which
 //! the tokens from a place on can be read. Each way is a tree, and owner table and levels are read
-//! off the tree. The refusals 13, 14 and 15 are decided by trying all continuations, so this is for
+//! off the tree. The refusals 13, 14, 15 and 20 are decided by trying all continuations, so this is for
 //! short lists. The answers come from the machine in owners.rs, and the checks hold it to this.
 
 use crate::oracle::kinds::{
-    ATTRIBUTE, CDATA, CLOSE_ELEMENT, CLOSE_EMPTY, CLOSE_START, INSTANCE, ITEMS, OPEN, PI_DATA,
-    PI_TARGET,
+    ANNOUNCING, ATTRIBUTE, CDATA, CLOSE_ELEMENT, CLOSE_EMPTY, CLOSE_START, INSTANCE, ITEMS, OPEN,
+    PI_DATA, PI_TARGET,
 };
 use crate::oracle::refusal::Refusal;
 use std::collections::BTreeSet;
+
+/// Which grammar: the wide one, or P5's narrower one, in which "announced and present must agree".
+#[derive(Debug, Clone, Copy, PartialEq, Eq)]
+pub enum Rule {
+    Wide,
+    Narrow,
+}
 
 /// "A body is from now on at most one target and data pair, then one instance or element, then at most
 /// one pair." A token in a tree is its number.
@@ -74,10 +81,10 @@ enum Part {
 type Ways<T> = Vec<(T, usize)>;
 
 /// Every way in which the whole list is a body.
-pub fn bodies(kinds: &[u8]) -> Vec<Body> {
+pub fn bodies(kinds: &[u8], rule: Rule) -> Vec<Body> {
     let mut whole = Vec::new();
     for (leading, after) in at_most_one_pair(kinds, 0) {
-        for (root, after) in roots(kinds, after) {
+        for (root, after) in roots(kinds, after, rule) {
             for (closing, after) in at_most_one_pair(kinds, after) {
                 if after == kinds.len() {
                     whole.push(Body {
@@ -92,12 +99,12 @@ pub fn bodies(kinds: &[u8]) -> Vec<Body> {
     whole
 }
 
-fn roots(kinds: &[u8], at: usize) -> Ways<Root> {
+fn roots(kinds: &[u8], at: usize, rule: Rule) -> Ways<Root> {
     let mut ways: Ways<Root> = Vec::new();
     if kinds.get(at) == Some(&INSTANCE) {
         ways.push((Root::Instance(at), at + 1));
     }
-    let elements = elements(kinds, at).into_iter();
+    let elements = elements(kinds, at, rule).into_iter();
     ways.extend(elements.map(|(element, end)| (Root::Element(element), end)));
     ways
 }
@@ -119,13 +126,19 @@ fn pairs(kinds: &[u8], at: usize) -> Ways<Pair> {
     vec![(Pair { target, data }, at + 2)]
 }
 
-fn elements(kinds: &[u8], open: usize) -> Ways<Element> {
+fn elements(kinds: &[u8], open: usize, rule: Rule) -> Ways<Element> {
     let mut ways = Vec::new();
-    if kinds.get(open) != Some(&OPEN) {
-        return ways;
-    }
+    let announced = match kinds.get(open) {
+        Some(&OPEN) => false,
+        Some(&ANNOUNCING) => true,
+        _ => return ways,
+    };
     for (attributes, after) in runs(&|at| self::attributes(kinds, at), open + 1) {
-        for (end, after) in ends(kinds, after) {
+        // "An open byte of 01 followed by an attribute", "41 followed by a close without any": not by the narrow grammar.
+        if rule == Rule::Narrow && announced == attributes.is_empty() {
+            continue;
+        }
+        for (end, after) in ends(kinds, after, rule) {
             let attributes = attributes.clone();
             let element = Element {
                 open,
@@ -138,13 +151,13 @@ fn elements(kinds: &[u8], open: usize) -> Ways<Element> {
     ways
 }
 
-fn ends(kinds: &[u8], at: usize) -> Ways<End> {
+fn ends(kinds: &[u8], at: usize, rule: Rule) -> Ways<End> {
     let mut ways = Vec::new();
     if kinds.get(at) == Some(&CLOSE_EMPTY) {
         ways.push((End::Empty(at), at + 1));
     }
     if kinds.get(at) == Some(&CLOSE_START) {
-        for (content, close_element) in runs(&|at| parts(kinds, at), at + 1) {
+        for (content, close_element) in runs(&|at| parts(kinds, at, rule), at + 1) {
             if kinds.get(close_element) == Some(&CLOSE_ELEMENT) {
                 let end = End::Content {
                     close_start: at,
@@ -174,14 +187,14 @@ fn items(kinds: &[u8], at: usize) -> Ways<usize> {
     }
 }
 
-fn parts(kinds: &[u8], at: usize) -> Ways<Part> {
+fn parts(kinds: &[u8], at: usize, rule: Rule) -> Ways<Part> {
     let mut ways: Ways<Part> = Vec::new();
     let items = items(kinds, at).into_iter();
     ways.extend(items.map(|(item, end)| (Part::Item(item), end)));
     if kinds.get(at) == Some(&CDATA) {
         ways.push((Part::Cdata(at), at + 1));
     }
-    let elements = elements(kinds, at).into_iter();
+    let elements = elements(kinds, at, rule).into_iter();
     ways.extend(elements.map(|(element, end)| (Part::Element(element), end)));
     let pairs = pairs(kinds, at).into_iter();
     ways.extend(pairs.map(|(pair, end)| (Part::Pi(pair), end)));
@@ -287,66 +300,89 @@ impl Element {
 /// With how many more tokens `count` of them are a body, if some body begins with them: one for each
 /// element that is open, and PI data after a last PI target. An open token and a close start stand
 /// before each of these but the first, so it is half the tokens, rounded up. Where the root is to come, it is one for it
-/// and one for the data after a leading target: two.
-pub fn enough(count: usize) -> usize {
-    count.div_ceil(2).max(2)
+/// and one for the data after a leading target: two. By the narrow grammar it is one more, the attribute that a last open token announces.
+pub fn enough(count: usize, rule: Rule) -> usize {
+    let attribute = usize::from(rule == Rule::Narrow);
+    (count.div_ceil(2) + attribute).max(2)
 }
 
 /// Hands to `each` the bodies that begin with `kinds` and have up to `more` tokens of the alphabet
 /// after them, the short ones first, until it has enough: then this is true.
 pub fn each_body(
     kinds: &[u8],
+    rule: Rule,
     more: usize,
     alphabet: &[u8],
     each: &mut impl FnMut(&Body) -> bool,
 ) -> bool {
     let mut list = kinds.to_vec();
-    (0..=more).any(|count| each_of_count(&mut list, count, alphabet, each))
+    (0..=more).any(|count| each_of_count(&mut list, rule, count, alphabet, each))
 }
 
 fn each_of_count(
     list: &mut Vec<u8>,
+    rule: Rule,
     count: usize,
     alphabet: &[u8],
     each: &mut impl FnMut(&Body) -> bool,
 ) -> bool {
     if count == 0 {
-        return bodies(list).iter().any(each);
+        return bodies(list, rule).iter().any(each);
     }
     alphabet.iter().any(|&kind| {
         list.push(kind);
-        let stopped = each_of_count(list, count - 1, alphabet, each);
+        let stopped = each_of_count(list, rule, count - 1, alphabet, each);
         list.pop();
         stopped
     })
 }
 
+/// Whether some body begins with the tokens: "some continuation" makes them one.
+pub fn begins(kinds: &[u8], rule: Rule, alphabet: &[u8]) -> bool {
+    each_body(
+        kinds,
+        rule,
+        enough(kinds.len(), rule),
+        alphabet,
+        &mut |_| true,
+    )
+}
+
+/// Whether some body of the narrow grammar begins with them that has so many levels at most.
+fn begins_within(kinds: &[u8], most_levels: usize, alphabet: &[u8]) -> bool {
+    let more = enough(kinds.len(), Rule::Narrow);
+    each_body(kinds, Rule::Narrow, more, alphabet, &mut |body| {
+        body.depth() <= most_levels
+    })
+}
+
 /// The owner tables of a list of kinds, or its refusal, with so many levels at most and continuations
-/// from the alphabet. That there is one table, and that the first body found decides what level a
-/// token opens, is for the checks to show.
+/// from the alphabet. That there is one table is for the checks to show.
 pub fn by_definition(
     kinds: &[u8],
     most_levels: usize,
     alphabet: &[u8],
 ) -> Result<BTreeSet<Vec<u32>>, Refusal> {
-    // "The first token where 13 or 14 holds counts, 13 before 14."
+    // "The first token where 13, 14 or 20 holds counts, in that order."
     for number in 0..kinds.len() {
         let through = &kinds[..=number];
-        let mut opened = None;
-        let begins = each_body(through, enough(through.len()), alphabet, &mut |body| {
-            opened = body.levels().into_iter().find(|(open, _)| *open == number);
-            true
-        });
-        // "No body begins with the tokens through this one"; "bodies of any depth count".
-        if !begins {
-            return Err(Refusal::new(13, number as u64));
+        if begins_within(through, most_levels, alphabet) {
+            continue;
         }
-        // "Opens level 65", where 64 are the most.
-        if opened.is_some_and(|(_, level)| level == most_levels + 1) {
-            return Err(Refusal::new(14, number as u64));
+        let refused = |refusal| Err(Refusal::new(refusal, number as u64));
+        // "No body begins with the tokens through this one", by the wide grammar; "bodies of any depth count".
+        if !begins(through, Rule::Wide, alphabet) {
+            return refused(13);
         }
+        // "Opens level 65", where 64 are the most: some body of the narrow grammar goes on, but none within the limit.
+        if begins(through, Rule::Narrow, alphabet) {
+            assert!([OPEN, ANNOUNCING].contains(&kinds[number]), "{kinds:?}");
+            return refused(14);
+        }
+        // "Attribute bit and attributes disagree."
+        return refused(20);
     }
-    let bodies = bodies(kinds);
+    let bodies = bodies(kinds, Rule::Narrow);
     if bodies.is_empty() {
         // "Body unfinished": "count of tokens".
         return Err(Refusal::new(15, kinds.len() as u64));

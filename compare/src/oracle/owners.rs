@@ -6,8 +6,8 @@
 
 use crate::oracle::chunk::{refused, words};
 use crate::oracle::kinds::{
-    ATTRIBUTE, CDATA, CLOSE_ELEMENT, CLOSE_EMPTY, CLOSE_START, INSTANCE, ITEMS, OPEN, PI_DATA,
-    PI_TARGET,
+    ANNOUNCING, ATTRIBUTE, CDATA, CLOSE_ELEMENT, CLOSE_EMPTY, CLOSE_START, INSTANCE, ITEMS, OPEN,
+    PI_DATA, PI_TARGET,
 };
 use crate::oracle::refusal::Refusal;
 use crate::oracle::tokens::Row;
@@ -24,8 +24,10 @@ enum Place {
     LeadingTarget,
     /// After a leading pair.
     Root,
-    /// In an element's start, directly in it or in the attribute of this number.
-    Start(Option<usize>),
+    /// Right after an open token, which announces attributes or not.
+    Open(bool),
+    /// In an element's start, in or after the attribute of this number.
+    Start(usize),
     Content,
     /// After a PI target in content.
     Target,
@@ -37,7 +39,7 @@ enum Place {
     End,
 }
 
-/// The owner table of a body with so many levels at most, or the refusal 13, 14 or 15.
+/// The owner table of a body with so many levels at most, or the refusal 13, 14, 15 or 20.
 pub fn owners(kinds: &[u8], most_levels: usize) -> Result<Vec<u32>, Refusal> {
     let mut table = Vec::with_capacity(kinds.len());
     // The open tokens of the elements that are not closed yet.
@@ -50,20 +52,25 @@ pub fn owners(kinds: &[u8], most_levels: usize) -> Result<Vec<u32>, Refusal> {
             (Place::First, PI_TARGET) => Place::LeadingTarget,
             (Place::LeadingTarget, PI_DATA) => Place::Root,
             (Place::First | Place::Root, INSTANCE) => Place::After,
-            (Place::First | Place::Root | Place::Content, OPEN) => {
+            (Place::First | Place::Root | Place::Content, OPEN | ANNOUNCING) => {
                 if open.len() == most_levels {
                     return Err(refused(14));
                 }
                 open.push(number);
-                Place::Start(None)
+                Place::Open(kind == ANNOUNCING)
             }
-            (Place::Start(_), ATTRIBUTE) => Place::Start(Some(number)),
-            (Place::Start(Some(attribute)), item) if ITEMS.contains(&item) => {
+            // "Announced and present must agree."
+            (Place::Open(false), ATTRIBUTE) | (Place::Open(true), CLOSE_START | CLOSE_EMPTY) => {
+                return Err(refused(20));
+            }
+            (Place::Open(true) | Place::Start(_), ATTRIBUTE) => Place::Start(number),
+            (Place::Start(attribute), item) if ITEMS.contains(&item) => {
                 owner = Some(attribute);
                 place
             }
-            (Place::Start(_), CLOSE_START) => Place::Content,
-            (Place::Start(_), CLOSE_EMPTY) | (Place::Content, CLOSE_ELEMENT) => {
+            (Place::Open(false) | Place::Start(_), CLOSE_START) => Place::Content,
+            (Place::Open(false) | Place::Start(_), CLOSE_EMPTY)
+            | (Place::Content, CLOSE_ELEMENT) => {
                 open.pop();
                 if open.is_empty() {
                     Place::After
@@ -88,9 +95,10 @@ pub fn owners(kinds: &[u8], most_levels: usize) -> Result<Vec<u32>, Refusal> {
 }
 
 /// The owner table of a walk's tokens. Document 01's order of refusals: 1; then the walk's, first met;
-/// then 13, 14 or 15.
+/// then 13, 14 or 15, and document 02's 20.
 pub(super) fn of_rows(rows: Result<Vec<Row>, Refusal>) -> Result<Vec<u32>, Refusal> {
-    let kinds: Vec<u8> = rows?.iter().map(|row| row.kind).collect();
+    let kind = |row: &Row| if row.announced { ANNOUNCING } else { row.kind };
+    let kinds: Vec<u8> = rows?.iter().map(kind).collect();
     owners(&kinds, MOST_LEVELS)
 }
 

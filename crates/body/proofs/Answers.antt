@@ -1,4 +1,4 @@
--- From what the reader says of a walk's kinds to the public call's answer. Assumes nothing.
+-- From what the reader says of a walk's marks to the public call's answer. Assumes nothing.
 use mathlib.Core.Path.{_≡_, refl, sym, ap, subst, _∙_}
 use mathlib.Core.Bool.{Bool, true, false}
 use mathlib.Core.List.{List}
@@ -13,7 +13,7 @@ use Rattle.cursor.specs.Refusals.{noRoom}
 use Rattle.tokens.specs.Walk.{Walked, ok, bad, countedOf, walkAt}
 use Rattle.tokens.specs.declared.Flags.{Flags}
 use Rattle.tokens.specs.declared.Token.{Token}
-use Rattle.sheet.specs.Sheet.{kindsOf}
+use Rattle.sheet.specs.Sheet.{marksOf}
 use Rattle.sheet.proofs.Laying.{few-tokens}
 use Rattle.body.specs.Verdict.{Verdict, a-body, Judged, unread, read, tableAnswer, tableLeft, Answered}
 use Rattle.body.specs.Verdict as verdict
@@ -23,10 +23,10 @@ use Rattle.body.proofs.Refusing.{refuses-right}
 
 -- the reader comes to the grammar's verdict
 pub verdict-right : (t : List ℕ) → Verdict t (verdictOn t)
-verdict-right t = by-outcome (outcome 64 begin 0 t) refl
+verdict-right t = by-outcome (outcome true 64 begin 0 t) refl
   where
-    by-outcome : (x : Out) → outcome 64 begin 0 t ≡ x → Verdict t (verdictOf x (wordsFrom 64 begin 0 t))
-    by-outcome accepted e = a-body (wordsFrom 64 begin 0 t) (read-body 64 t e)
+    by-outcome : (x : Out) → outcome true 64 begin 0 t ≡ x → Verdict t (verdictOf x (wordsFrom true 64 begin 0 t))
+    by-outcome accepted e = a-body (wordsFrom true 64 begin 0 t) (read-body true 64 t e)
     by-outcome (refused k p) e = verdict.refused k p (refuses-right t k p e)
 
 -- a walk that is refused
@@ -45,23 +45,23 @@ has-places s end f start n m c h =
     ⊎-elim (λ l. omega (arith, y .0)) (λ l. omega (arith, y .1)) h
 
 -- the front of a buffer is no longer than the buffer
-pub front-short : (n m : ℕ) (kinds : List ℕ) → length kinds ≤ m → length (take n kinds) ≤ m
-front-short n m kinds h = omega (arith, length-take n kinds)
+pub front-short : (n m : ℕ) (marks : List ℕ) → length marks ≤ m → length (take n marks) ≤ m
+front-short n m marks h = omega (arith, length-take n marks)
 
--- a walk that was read, with its kinds
-pub walk-read : (w : Walked) (l : List Token) (kinds lent left : List ℕ) (o : Result ℕ) → w ≡ ok l → kinds ≡ kindsOf l
-    → o ≡ tableAnswer (verdictOn kinds) lent → left ≡ tableLeft (verdictOn kinds) lent → Answered lent left w o
-walk-read w l kinds lent left o a q e f =
-    let r = read l (verdictOn kinds) (subst (λ (t : List ℕ). Verdict t (verdictOn kinds)) q (verdict-right kinds)) in
-    record { verdict = verdictOn kinds; judged = subst (λ (v : Walked). Judged v (verdictOn kinds)) (sym a) r; answer = e; table = f }
+-- a walk that was read, with its marks
+pub walk-read : (w : Walked) (l : List Token) (marks lent left : List ℕ) (o : Result ℕ) → w ≡ ok l → marks ≡ marksOf l
+    → o ≡ tableAnswer (verdictOn marks) lent → left ≡ tableLeft (verdictOn marks) lent → Answered lent left w o
+walk-read w l marks lent left o a q e f =
+    let r = read l (verdictOn marks) (subst (λ (t : List ℕ). Verdict t (verdictOn marks)) q (verdict-right marks)) in
+    record { verdict = verdictOn marks; judged = subst (λ (v : Walked). Judged v (verdictOn marks)) (sym a) r; answer = e; table = f }
 
 -- the verdict on a walk, computed; so there is an answer for every walk and every table
 abbrev pub verdictAt : Walked → Result (List ℕ)
-verdictAt (ok l) = verdictOn (kindsOf l)
+verdictAt (ok l) = verdictOn (marksOf l)
 verdictAt (bad k p) = refuses k p
 
 judged-right : (w : Walked) → Judged w (verdictAt w)
-judged-right (ok l) = read l (verdictOn (kindsOf l)) (verdict-right (kindsOf l))
+judged-right (ok l) = read l (verdictOn (marksOf l)) (verdict-right (marksOf l))
 judged-right (bad k p) = unread k p
 
 abbrev pub answerOf : Walked → List ℕ → Result ℕ

@@ -12,6 +12,11 @@ use Rattle.tokens.specs.Token.{openKind, attributeKind}
 use Rattle.body.specs.Grammar as g
 use Rattle.body.specs.Grammar.{kindOf, Rule, wide, OneOfFour, a-value, a-substitution, a-char-ref, an-entity-ref, Stands, Items, Attributes, attribute, Tag, Element, empty, full, Content, cdata, instruction, child, Root, an-instance, an-element, AtMostOnePair, no-pair, a-pair, Body, parts, Reading}
 
+-- no token has the mark 0
+pub zero-kind : kindOf 0 ≡ 0
+unfolding kindOf
+zero-kind = refl
+
 no-open : {k : ℕ} → OneOfFour k → k ≡ openKind → ⊥
 no-open a-value e = omega arith
 no-open a-substitution e = omega arith
@@ -28,7 +33,7 @@ before-or-not n m f h = elim (decLt n m) [ yes q ↦ f q | no q ↦ h (omega ari
 module _ (t o : List ℕ) where
   -- of another kind than an open token
   not-open : {i k w n : ℕ} → Stands t o i k w → (k ≡ openKind → ⊥) → i ≡ n → kindOf (getD t n 0) ≡ openKind → ⊥
-  not-open s h e z = h (sym (s .kind) ∙ ap (λ (m : ℕ). getD t m 0) e ∙ z)
+  not-open s h e z = h (sym (s .kind) ∙ ap (λ (m : ℕ). kindOf (getD t m 0)) e ∙ z)
 
   items-not-open : {w i j : ℕ} → Items t o w i j → (n : ℕ) → i ≤ n → n < j → kindOf (getD t n 0) ≡ openKind → ⊥
   items-not-open g.Items.no-more n l h e = omega arith
@@ -47,13 +52,13 @@ module _ (t o : List ℕ) where
       first-or-after i n l (λ q. not-open k (λ z. omega arith) q e) (λ q. not-open d (λ z. omega arith) (omega arith) e)
 
   -- spans go forward
-  items-on : {w i j : ℕ} → Items t o w i j → i ≤ j
+  pub items-on : {w i j : ℕ} → Items t o w i j → i ≤ j
   items-on g.Items.no-more = omega arith
   items-on {i = i} {j = j} (g.Items.item x k c) =
       let h = items-on c in
       omega arith
 
-  attributes-on : {w i j : ℕ} → Attributes t o w i j → i ≤ j
+  pub attributes-on : {w i j : ℕ} → Attributes t o w i j → i ≤ j
   attributes-on g.Attributes.no-more = omega arith
   attributes-on {i = i} {j = j} (attribute k items c) =
       let a = items-on items in
@@ -63,11 +68,11 @@ module _ (t o : List ℕ) where
   -- there are attributes exactly where the token after the open token is one: what comes after them is none
   some-attributes : {w v i j k : ℕ} → Attributes t o w i j → Stands t o j k v → (k ≡ attributeKind → ⊥) → ltb i j ≡ eqb (kindOf (getD t i 0)) attributeKind
   some-attributes {i = i} {k = k} g.Attributes.no-more s h =
-      le-ltb i i (omega arith) ∙ sym (ne-eqb (getD t i 0) attributeKind (λ e. h (sym (s .kind) ∙ e)))
+      le-ltb i i (omega arith) ∙ sym (ne-eqb (kindOf (getD t i 0)) attributeKind (λ e. h (sym (s .kind) ∙ e)))
   some-attributes {i = i} {j = j} (attribute a items c) s h =
       let x = items-on items in
       let y = attributes-on c in
-      lt-ltb i j (omega arith) ∙ sym (eq-eqb (getD t i 0) attributeKind (a .kind))
+      lt-ltb i j (omega arith) ∙ sym (eq-eqb (kindOf (getD t i 0)) attributeKind (a .kind))
 
   module _ (rule : Rule) (limit : ℕ) where
     -- an open token keeps the rule, by the token after it
@@ -170,7 +175,7 @@ module _ (t o : List ℕ) where
     reading-keeps r n =
         before-or-not n (length t) (λ h. body-keeps (r .body) n (omega arith) h)
         (λ h e.
-        let z : getD t n 0 ≡ 0 = List·getD-eq-default t 0 h in
+        let z : kindOf (getD t n 0) ≡ 0 = ap kindOf (List·getD-eq-default t 0 h) ∙ zero-kind in
         absurd (omega arith))
 
     pub reading-own : ((n : ℕ) → Keeps n) → Reading wide limit t o → Reading rule limit t o

@@ -1,19 +1,28 @@
--- The grammar of an event body, and its owner table. Document 01, "Grammar"; document 02, P4: what may stand around the root.
+-- The grammar of an event body, and its owner table. Document 01, "Grammar"; document 02, P4: what may stand around the root, and P5: what
+-- an open token asks of its attributes.
 --
 -- Tokens go by their numbers, from 0 on: the span from i to j is the tokens i, i + 1, .. up to but not j. `suc i` is i + 1. A token's word in
 -- the table is its owner's number plus 1, or 0 for none; so the word `suc i` says that token i owns it. Of a token the grammar sees its mark
--- (sheet/specs, `kindsOf`).
+-- (sheet/specs, `marksOf`).
 use mathlib.Core.Path.{_≡_}
 use mathlib.Core.Bool.{Bool}
 use mathlib.Core.List.{List}
 use Prim.Native.Nat.{ℕ, suc, _≤_}
-use lib.Dec.{ltb}
+use lib.Dec.{eqb, ltb}
 use lib.ListN.{length, getD}
+use Rattle.cursor.specs.Answer.{pick}
 use Rattle.tokens.specs.Token.{instanceKind, openKind, closeStartKind, closeEmptyKind, closeElementKind, valueKind, attributeKind, entityRefKind, piTargetKind, piDataKind, cdataKind, charRefKind, substitutionKind}
 
--- the kind that a mark is of: a mark is the kind itself
-abbrev pub kindOf : ℕ → ℕ
-kindOf mark = mark
+-- an open token that announces attributes, by its mark: the kind, and 16 more
+abbrev pub announcingOpen : ℕ
+announcingOpen = 18
+
+abbrev pub announces : ℕ → Bool
+announces mark = eqb mark announcingOpen
+
+-- the kind that a mark is of: every other mark is the kind itself, since only an open token announces attributes
+unfoldable pub kindOf : ℕ → ℕ
+kindOf mark = pick (announces mark) openKind mark
 
 -- What a grammar asks of an open token, by its mark and by whether attributes follow it.
 abbrev pub Rule : Type 1
@@ -22,6 +31,10 @@ Rule = ℕ → Bool → Type 0
 -- "any attributes": nothing is asked
 abbrev pub wide : Rule
 wide mark any = Unit {0}
+
+-- "Announced and present must agree": attributes follow exactly where they were announced
+abbrev pub narrow : Rule
+narrow mark any = announces mark ≡ any
 
 -- "values, substitutions, char refs, entity refs": the kinds of "those four"
 pub data OneOfFour : ℕ → Type 0 where

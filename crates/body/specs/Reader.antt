@@ -1,17 +1,17 @@
--- The reader as a function on the kinds of tokens: what the private functions cite. What it is worth is shown against the grammar
+-- The reader as a function on the marks of tokens: what the private functions cite. What it is worth is shown against the grammar
 -- (proofs/Agree.antt, proofs/Refusing.antt); the public call's contract speaks of the grammar alone.
 use mathlib.Core.Path.{_≡_}
 use mathlib.Core.Bool.{Bool, true, false, _||_}
 use mathlib.Core.List.{List, [], _∷_}
 use mathlib.Core.Logic.{_⊎_}
-use Prim.Native.Nat.{ℕ, suc, _-_, _≤_, _<_}
+use Prim.Native.Nat.{ℕ, suc, _+_, _-_, _≤_, _<_}
 use lib.Dec.{eqb, ltb}
-use lib.ListN.{length, take, drop, set}
+use lib.ListN.{length, getD, take, drop, set}
 use lib.Seq.{sets}
 use Rattle.cursor.specs.Answer.{Result, gives, refuses, pick}
-use Rattle.cursor.specs.Refusals.{noBody, tooDeep, unfinished}
+use Rattle.cursor.specs.Refusals.{noBody, tooDeep, unfinished, disagree}
 use Rattle.tokens.specs.Token.{instanceKind, openKind, closeStartKind, closeEmptyKind, closeElementKind, valueKind, attributeKind, entityRefKind, piTargetKind, piDataKind, cdataKind, charRefKind, substitutionKind}
-use Rattle.body.specs.Grammar.{kindOf}
+use Rattle.body.specs.Grammar.{Rule, announces, kindOf}
 use Rattle.body.specs.Verdict.{deepest}
 use Rattle.body.specs.declared.reader.Read.{Read}
 use Rattle.body.specs.declared.reader.Read.the-variants as R
@@ -19,13 +19,13 @@ use Rattle.body.specs.declared.reader.Tagged.{Tagged}
 use Rattle.body.specs.declared.reader.Tagged.the-variants as T
 
 -- Where the reader stands. A stack has the word of each element that is open, the innermost first.
--- begin: before the first token. root: after a leading pair. tag: in an open tag, with the word of its last attribute (0 where there is none
--- yet) and the element's own. inside: in content; where no element is open the root is over. done: after a closing pair. target: after a PI
--- target, with its word and the state that its data leaves.
+-- begin: before the first token. root: after a leading pair. tag: in an open tag, with whether it announces attributes, the word of its last
+-- one (0 where there is none yet) and the element's own. inside: in content; where no element is open the root is over. done: after a closing
+-- pair. target: after a PI target, with its word and the state that its data leaves.
 pub data State : Type 0 where
   begin : State
   root : State
-  tag : ℕ → ℕ → List ℕ → State
+  tag : Bool → ℕ → ℕ → List ℕ → State
   inside : List ℕ → State
   done : State
   target : ℕ → State → State
@@ -39,10 +39,29 @@ pub data Step : Type 0 where
   move : ℕ → State → Step
   stop : Out → Step
 
+-- By which rule it reads: the narrow one, where announced and present are asked to agree, or the wide one.
+abbrev pub agreesBy : Bool → Bool → Bool → Type 0
+agreesBy true announced any = announced ≡ any
+agreesBy false announced any = Unit {0}
+
+abbrev pub ruleOf : Bool → Rule
+ruleOf strict mark any = agreesBy strict (announces mark) any
+
+-- a condition, where it is asked for
+abbrev pub ifAsked : Bool → Bool → Bool
+ifAsked true b = b
+ifAsked false b = true
+
+-- whether a close token may follow the attribute with the word `last`: where attributes were announced there must be one
+abbrev pub closes : Bool → ℕ → Bool
+closes true last = ltb 0 last
+closes false last = true
+
 -- what a mark is of
 abbrev pub isOpen : ℕ → Bool
-isOpen k = eqb (kindOf k) openKind
+isOpen mark = eqb (kindOf mark) openKind
 
+-- what a kind is
 abbrev pub isItem : ℕ → Bool
 isItem k = eqb k valueKind || (eqb k substitutionKind || (eqb k charRefKind || eqb k entityRefKind))
 
@@ -50,59 +69,68 @@ abbrev pub isLeaf : ℕ → Bool
 isLeaf k = eqb k cdataKind || isItem k
 
 -- an open token, with the word w, below the elements of the stack
-unfoldable pub opening : ℕ → ℕ → List ℕ → ℕ → Step
-opening limit w st n = pick (ltb (length st) limit) (move w (tag 0 (suc n) st)) (stop (refused tooDeep n))
+unfoldable pub opening : ℕ → Bool → ℕ → List ℕ → ℕ → Step
+opening limit announced w st n = pick (ltb (length st) limit) (move w (tag announced 0 (suc n) st)) (stop (refused tooDeep n))
 
 -- the root's first token
-abbrev pub rooted : ℕ → ℕ → ℕ → Step
-rooted limit n k =
-    pick (isOpen k) (opening limit 0 [] n)
+abbrev pub rooted : ℕ → ℕ → Bool → ℕ → Step
+rooted limit n announced k =
+    pick (eqb k openKind) (opening limit announced 0 [] n)
     (pick (eqb k instanceKind) (move 0 (inside []))
     (stop (refused noBody n)))
 
--- token n, of the kind k
-unfoldable pub step : ℕ → State → ℕ → ℕ → Step
-step limit begin n k = pick (eqb k piTargetKind) (move 0 (target 0 root)) (rooted limit n k)
-step limit root n k = rooted limit n k
-step limit (tag a w st) n k =
-    pick (eqb k attributeKind) (move w (tag (suc n) w st))
-    (pick (eqb k closeEmptyKind) (move w (inside st))
-    (pick (eqb k closeStartKind) (move w (inside (w ∷ st)))
+-- a token that the wide grammar allows here: on to the state s, or 20
+abbrev pub asking : Bool → ℕ → State → ℕ → Step
+asking b w s n = pick b (move w s) (stop (refused disagree n))
+
+-- token n, which is of the kind k and announces attributes or not
+unfoldable pub turn : Bool → ℕ → State → ℕ → Bool → ℕ → Step
+turn strict limit begin n announced k = pick (eqb k piTargetKind) (move 0 (target 0 root)) (rooted limit n announced k)
+turn strict limit root n announced k = rooted limit n announced k
+turn strict limit (tag c a w st) n announced k =
+    pick (eqb k attributeKind) (asking (ifAsked strict c) w (tag c (suc n) w st) n)
+    (pick (eqb k closeEmptyKind) (asking (ifAsked strict (closes c a)) w (inside st) n)
+    (pick (eqb k closeStartKind) (asking (ifAsked strict (closes c a)) w (inside (w ∷ st)) n)
     (pick (eqb a 0) (stop (refused noBody n))
-    (pick (isItem k) (move a (tag a w st))
+    (pick (isItem k) (move a (tag c a w st))
     (stop (refused noBody n))))))
-step limit (inside []) n k = pick (eqb k piTargetKind) (move 0 (target 0 done)) (stop (refused noBody n))
-step limit done n k = stop (refused noBody n)
-step limit (inside (w ∷ st)) n k =
+turn strict limit (inside []) n announced k = pick (eqb k piTargetKind) (move 0 (target 0 done)) (stop (refused noBody n))
+turn strict limit done n announced k = stop (refused noBody n)
+turn strict limit (inside (w ∷ st)) n announced k =
     pick (eqb k closeElementKind) (move w (inside st))
-    (pick (isOpen k) (opening limit w (w ∷ st) n)
+    (pick (eqb k openKind) (opening limit announced w (w ∷ st) n)
     (pick (eqb k piTargetKind) (move w (target w (inside (w ∷ st))))
     (pick (isLeaf k) (move w (inside (w ∷ st)))
     (stop (refused noBody n)))))
-step limit (target w s) n k = pick (eqb k piDataKind) (move w s) (stop (refused noBody n))
+turn strict limit (target w s) n announced k = pick (eqb k piDataKind) (move w s) (stop (refused noBody n))
+
+-- token n, with its mark
+abbrev pub step : Bool → ℕ → State → ℕ → ℕ → Step
+step strict limit s n mark = turn strict limit s n (announces mark) (kindOf mark)
 
 -- the answer where the tokens end
 unfoldable pub ended : State → ℕ → Out
 ended begin n = refused unfinished n
 ended root n = refused unfinished n
-ended (tag a w st) n = refused unfinished n
+ended (tag c a w st) n = refused unfinished n
 ended (inside []) n = accepted
 ended (inside (w ∷ st)) n = refused unfinished n
 ended done n = accepted
 ended (target w s) n = refused unfinished n
 
 -- from a state at token n on: the answer, and the words of the tokens that were read
-unfoldable pub outcome : ℕ → State → ℕ → List ℕ → Out
-outcome limit s n [] = ended s n
-outcome limit s n (k ∷ ks) = elim (step limit s n k) [ move w s′ ↦ outcome limit s′ (suc n) ks | stop o ↦ o ]
+unfoldable pub outcome : Bool → ℕ → State → ℕ → List ℕ → Out
+outcome strict limit s n [] = ended s n
+outcome strict limit s n (k ∷ ks) = elim (step strict limit s n k) [ move w s′ ↦ outcome strict limit s′ (suc n) ks | stop o ↦ o ]
 
-unfoldable pub wordsFrom : ℕ → State → ℕ → List ℕ → List ℕ
-wordsFrom limit s n [] = []
-wordsFrom limit s n (k ∷ ks) = elim (step limit s n k) [ move w s′ ↦ w ∷ wordsFrom limit s′ (suc n) ks | stop o ↦ [] ]
+unfoldable pub wordsFrom : Bool → ℕ → State → ℕ → List ℕ → List ℕ
+wordsFrom strict limit s n [] = []
+wordsFrom strict limit s n (k ∷ ks) =
+    elim (step strict limit s n k) [ move w s′ ↦ w ∷ wordsFrom strict limit s′ (suc n) ks | stop o ↦ [] ]
 
--- both, with the words put into a table where it has room
+-- both by the narrow rule, with the words put into a table where it has room
 unfoldable pub walk : List ℕ → State → ℕ → List ℕ → Out × List ℕ
-walk t s n table = (outcome deepest s n (drop n t), sets table n (wordsFrom deepest s n (drop n t)))
+walk t s n table = (outcome true deepest s n (drop n t), sets table n (wordsFrom true deepest s n (drop n t)))
 
 -- a reader that goes on has read a token at least, and stays within the tokens
 abbrev pub further : List ℕ → ℕ → Read → Type 0
@@ -130,7 +158,7 @@ onStep t at table (move w s) = walk t s (suc at) (set table at w)
 onStep t at table (stop o) = (o, table)
 
 abbrev pub opened : List ℕ → ℕ → ℕ → List ℕ → List ℕ → Out × List ℕ
-opened t at w st table = onStep t at table (opening deepest w st at)
+opened t at w st table = onStep t at table (opening deepest (announces (getD t at 0)) w st at)
 
 -- A reader's answer and table are those of the whole, whatever elements are open above it: the stack `st` has their words.
 abbrev pub ElementRead : List ℕ → ℕ → ℕ → ℕ → List ℕ → Read → List ℕ → Type 0
@@ -142,16 +170,25 @@ ContentRead t at above me table r left = (st : List ℕ) → length st ≡ above
 abbrev pub LeafRead : List ℕ → ℕ → ℕ → List ℕ → Read → List ℕ → Type 0
 LeafRead t at me table r left = (st : List ℕ) → resume t (inside (me ∷ st)) r left ≡ walk t (inside (me ∷ st)) at table
 
-abbrev pub TagRead : List ℕ → ℕ → ℕ → ℕ → List ℕ → Tagged → List ℕ → Type 0
-TagRead t at last me table r left = (st : List ℕ) → tagResume t me st r left ≡ walk t (tag last me st) at table
+abbrev pub TagRead : Bool → List ℕ → ℕ → ℕ → ℕ → List ℕ → Tagged → List ℕ → Type 0
+TagRead announced t at last me table r left = (st : List ℕ) → tagResume t me st r left ≡ walk t (tag announced last me st) at table
 
--- whatever attribute was the last
+-- after an open token at `at`
+abbrev pub OpenRead : List ℕ → ℕ → ℕ → List ℕ → Tagged → List ℕ → Type 0
+OpenRead t at me table r left = TagRead (announces (getD t at 0)) t (at + 1) 0 me table r left
+
+-- whatever attribute was the last, where a close token may follow; an item there has none before it
 abbrev pub TagEndRead : List ℕ → ℕ → ℕ → List ℕ → Tagged → List ℕ → Type 0
-TagEndRead t at me table r left = (last : ℕ) → TagRead t at last me table r left
+TagEndRead t at me table r left =
+    (announced : Bool) (last : ℕ) → closes announced last ≡ true → (isItem (getD t at 0) ≡ true → last ≡ 0) → TagRead announced t at last me table r left
+
+-- the refusal of a token, by its mark, that is no attribute where attributes were announced
+abbrev pub lackingOf : ℕ → ℕ
+lackingOf mark = pick (eqb mark closeEmptyKind) disagree (pick (eqb mark closeStartKind) disagree noBody)
 
 -- a PI target and its data, from any state in which a target may stand, with the word w: s′ is the state after the data
 abbrev pub PairRead : List ℕ → ℕ → ℕ → List ℕ → Read → List ℕ → Type 0
-PairRead t at w table r left = (s s′ : State) → step deepest s at piTargetKind ≡ move w (target w s′) → resume t s′ r left ≡ walk t s at table
+PairRead t at w table r left = (s s′ : State) → step true deepest s at piTargetKind ≡ move w (target w s′) → resume t s′ r left ≡ walk t s at table
 
 -- a reader's answer and table are those of the whole, from the state s on; s′ is the state that it leaves
 abbrev pub PartRead : State → State → List ℕ → ℕ → List ℕ → Read → List ℕ → Type 0
@@ -173,7 +210,7 @@ verdictOf accepted words = gives words
 verdictOf (refused k p) words = refuses k p
 
 abbrev pub verdictOn : List ℕ → Result (List ℕ)
-verdictOn kinds = verdictOf (outcome deepest begin 0 kinds) (wordsFrom deepest begin 0 kinds)
+verdictOn marks = verdictOf (outcome true deepest begin 0 marks) (wordsFrom true deepest begin 0 marks)
 
 -- at most m bytes are left from the start on, or at most m places where a token may begin
 abbrev pub Few : List ℕ → ℕ → ℕ → ℕ → Type 0
@@ -181,4 +218,4 @@ Few s start end m = (length s - start ≤ m) ⊎ (end - start ≤ m)
 
 -- where there is room for the words of a body they stand at the front
 abbrev pub InFront : List ℕ → List ℕ → Type 0
-InFront kinds words = length kinds ≤ length words → take (length kinds) words ≡ wordsFrom deepest begin 0 kinds
+InFront marks words = length marks ≤ length words → take (length marks) words ≡ wordsFrom true deepest begin 0 marks

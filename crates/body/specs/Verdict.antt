@@ -1,17 +1,18 @@
--- What accepting and refusing say. Document 01, "Refusals and their places" 13 to 16. First by the grammar alone, then with the walk before
--- it, and last what a lent table adds.
+-- What accepting and refusing say. Document 01, "Refusals and their places" 13 to 16, and document 02, P5: "what it accepts, its "no
+-- continuation" and its "some continuation" alike, is read over this narrower grammar, refusal 13 over the wide one". First by the grammar
+-- alone, then with the walk before it, and last what a lent table adds.
 use mathlib.Core.Path.{_≡_}
 use mathlib.Core.List.{List, _++_}
 use Prim.Native.Nat.{ℕ, suc, _≤_, _<_}
 use lib.ListN.{length, take, getD}
 use Rattle.cursor.specs.Answer.{Result, gives, refuses}
 use Rattle.cursor.specs.Lent.{lentAnswer, lentLeft}
-use Rattle.cursor.specs.Refusals.{noBody, tooDeep, unfinished}
+use Rattle.cursor.specs.Refusals.{noBody, tooDeep, unfinished, disagree}
 use Rattle.tokens.specs.Token.{openKind}
 use Rattle.tokens.specs.Walk.{Walked, ok, bad}
 use Rattle.tokens.specs.declared.Token.{Token}
-use Rattle.sheet.specs.Sheet.{kindsOf}
-use Rattle.body.specs.Grammar.{kindOf, Rule, wide, Reading}
+use Rattle.sheet.specs.Sheet.{marksOf}
+use Rattle.body.specs.Grammar.{kindOf, Rule, wide, narrow, Reading}
 
 -- "levels limited to 64"
 abbrev pub deepest : ℕ
@@ -23,41 +24,51 @@ pub record Begins (rule : Rule) (limit : ℕ) (marks : List ℕ) : Type 0 where
   pub words : List ℕ
   pub reading : Reading rule limit (marks ++ others) words
 
--- 13: "no body begins with the tokens through this one", "bodies of any depth count"; and one begins with those before it
+-- 13: "no body begins with the tokens through this one", "bodies of any depth count", by the wide grammar; and one begins with those before it
 pub record NoBody (marks : List ℕ) (i : ℕ) : Type 0 where
   pub there : i < length marks
-  pub before : Begins wide deepest (take i marks)
+  pub before : Begins narrow deepest (take i marks)
   pub none : (limit : ℕ) → Begins wide limit (take (suc i) marks) → ⊥
 
 -- 14: "opens level 65": an open token through which a body of 65 levels begins, but none of 64; and one of 64 begins with those before it.
--- So 13 does not hold of it
+-- So neither 13 nor 20 holds of it
 pub record TooDeep (marks : List ℕ) (i : ℕ) : Type 0 where
   pub there : i < length marks
-  pub before : Begins wide deepest (take i marks)
+  pub before : Begins narrow deepest (take i marks)
   pub opens : kindOf (getD marks i 0) ≡ openKind
-  pub deeper : Begins wide (suc deepest) (take (suc i) marks)
-  pub none : Begins wide deepest (take (suc i) marks) → ⊥
+  pub deeper : Begins narrow (suc deepest) (take (suc i) marks)
+  pub none : Begins narrow deepest (take (suc i) marks) → ⊥
+
+-- 20: "attribute bit and attributes disagree": a body by the wide grammar begins with the tokens through this one, so that 13 does not hold
+-- of it, but none in which bits and attributes agree, of any depth; and one of 64 levels begins with those before it
+pub record Disagrees (marks : List ℕ) (i : ℕ) : Type 0 where
+  pub there : i < length marks
+  pub before : Begins narrow deepest (take i marks)
+  pub levels : ℕ
+  pub goes-on : Begins wide levels (take (suc i) marks)
+  pub none : (limit : ℕ) → Begins narrow limit (take (suc i) marks) → ⊥
 
 -- 15: "body unfinished": the tokens are no body of any depth, and a body of at most 64 levels begins with them
 pub record Unfinished (marks : List ℕ) : Type 0 where
-  pub none : (limit : ℕ) (words : List ℕ) → Reading wide limit marks words → ⊥
-  pub more : Begins wide deepest marks
+  pub none : (limit : ℕ) (words : List ℕ) → Reading narrow limit marks words → ⊥
+  pub more : Begins narrow deepest marks
 
--- a refusal by the grammar: its number and its place
+-- a refusal by the grammar: its number and its place. "the first token where 13, 14 or 20 holds counts, in that order; 15 and 16 come after"
 pub data Refuses (marks : List ℕ) : ℕ → ℕ → Type 0 where
   no-body : (i : ℕ) → NoBody marks i → Refuses marks noBody i
   too-deep : (i : ℕ) → TooDeep marks i → Refuses marks tooDeep i
+  disagreeing : (i : ℕ) → Disagrees marks i → Refuses marks disagree i
   unfinished-body : Unfinished marks → Refuses marks unfinished (length marks)
 
--- The grammar's verdict on tokens: a body with the words of its owner table, or the refusal "13, 14 or 15".
+-- The grammar's verdict on tokens: a body with the words of its owner table, or the refusal 13, 14, 20 or 15.
 pub data Verdict (marks : List ℕ) : Result (List ℕ) → Type 0 where
-  a-body : (words : List ℕ) → Reading wide deepest marks words → Verdict marks (gives words)
+  a-body : (words : List ℕ) → Reading narrow deepest marks words → Verdict marks (gives words)
   refused : (k p : ℕ) → Refuses marks k p → Verdict marks (refuses k p)
 
--- "Order: 1; then the walk's, first met; then 13, 14 or 15": the verdict on a walk. No lent words are in it.
+-- "Order: 1; then the walk's, first met; then 13, 14 or 15", and 20 among these: the verdict on a walk. No lent words are in it.
 pub data Judged : Walked → Result (List ℕ) → Type 0 where
   unread : (k p : ℕ) → Judged (bad k p) (refuses k p)
-  read : (l : List Token) (v : Result (List ℕ)) → Verdict (kindsOf l) v → Judged (ok l) v
+  read : (l : List Token) (v : Result (List ℕ)) → Verdict (marksOf l) v → Judged (ok l) v
 
 -- "then 16": "lent sheet or table too short", "words needed". The answer for a verdict and a lent table
 abbrev pub tableAnswer : Result (List ℕ) → List ℕ → Result ℕ

@@ -1,15 +1,16 @@
-// The readers of the grammar, over the kinds of tokens. Element and content reader call each other.
+// The readers of the grammar, over the marks of tokens. Element and content reader call each other.
 //
 // Each puts the words of the tokens that it reads into a table, where the table has room. A word is the owner's number plus 1, or 0.
 use cursor::Refusal;
 use tokens::Token;
 ghost use mathlib.Core.Path.{_≡_};
-ghost use mathlib.Core.Bool.{false};
+ghost use mathlib.Core.Bool.{true, false};
 ghost use mathlib.Core.List.{[]};
-ghost use Prim.Native.Nat.{_≤_, _<_};
+ghost use Prim.Native.Nat.{_+_, _≤_, _<_};
 ghost use lib.ListN.{length, getD, set};
 ghost use Rattle.tokens.specs.Token.{closeElementKind, attributeKind, piTargetKind};
-ghost use Rattle.body.specs.Reader.{isOpen, isItem, isLeaf, further, tagFurther, ElementRead, ContentRead, LeafRead, TagRead, TagEndRead, PairRead, PartRead, atEnd, wholeOf, walk, begin, root, inside};
+ghost use Rattle.body.specs.Grammar.{announces};
+ghost use Rattle.body.specs.Reader.{isOpen, isItem, isLeaf, lackingOf, further, tagFurther, ElementRead, ContentRead, LeafRead, TagRead, OpenRead, TagEndRead, PairRead, PartRead, atEnd, wholeOf, walk, begin, root, inside};
 
 // The token after what was read, or a refusal's place and number. (The place comes first: it then lies in memory where the token's number
 // does. An element's answer goes through memory, and a byte laid over that number had it put there in pieces.)
@@ -26,52 +27,52 @@ pub enum Tagged {
 }
 
 // Reads a whole body: "at most one target and data pair, then one instance or element, then at most one pair".
-pub(crate) fn whole(kinds: &[u8], table: &mut [u32]) -> Read
-    requires { ⌜ length (now kinds) ≤ 65536 ⌝ }
-    ensures { λ r. ⌜ wholeOf r (now (table .exit)) ≡ walk (now (kinds .entry)) begin 0 (now (table .entry)) ⌝ }
+pub(crate) fn whole(marks: &[u8], table: &mut [u32]) -> Read
+    requires { ⌜ length (now marks) ≤ 65536 ⌝ }
+    ensures { λ r. ⌜ wholeOf r (now (table .exit)) ≡ walk (now (marks .entry)) begin 0 (now (table .entry)) ⌝ }
 {
-    match leading(kinds, table) {
-        Read::Next(at) => from_root(kinds, at, table),
+    match leading(marks, table) {
+        Read::Next(at) => from_root(marks, at, table),
         Read::Refused(place, number) => Read::Refused(place, number),
     }
 }
 
 // Reads the pair before the root, where there is one.
-fn leading(kinds: &[u8], table: &mut [u32]) -> Read
-    ensures { λ r. ⌜ PartRead begin root (now (kinds .entry)) 0 (now (table .entry)) r (now (table .exit)) ⌝ }
+fn leading(marks: &[u8], table: &mut [u32]) -> Read
+    ensures { λ r. ⌜ PartRead begin root (now (marks .entry)) 0 (now (table .entry)) r (now (table .exit)) ⌝ }
 {
-    if kinds.len() == 0 {
+    if marks.len() == 0 {
         return Read::Next(0);
     }
-    if kinds[0] != Token::PI_TARGET {
+    if marks[0] != Token::PI_TARGET {
         return Read::Next(0);
     }
-    instruction(kinds, 0, 0, table)
+    instruction(marks, 0, 0, table)
 }
 
 // Reads the root, whose first token is at `at`, and what follows it.
-fn from_root(kinds: &[u8], at: usize, table: &mut [u32]) -> Read
-    requires { ⌜ length (now kinds) ≤ 65536 ⌝ }
-    ensures { λ r. ⌜ wholeOf r (now (table .exit)) ≡ walk (now (kinds .entry)) root at (now (table .entry)) ⌝ }
+fn from_root(marks: &[u8], at: usize, table: &mut [u32]) -> Read
+    requires { ⌜ length (now marks) ≤ 65536 ⌝ }
+    ensures { λ r. ⌜ wholeOf r (now (table .exit)) ≡ walk (now (marks .entry)) root at (now (table .entry)) ⌝ }
 {
-    match root_at(kinds, at, table) {
-        Read::Next(next) => closing(kinds, next, table),
+    match root_at(marks, at, table) {
+        Read::Next(next) => closing(marks, next, table),
         Read::Refused(place, number) => Read::Refused(place, number),
     }
 }
 
 // Reads the root: an element or an instance.
-fn root_at(kinds: &[u8], at: usize, table: &mut [u32]) -> Read
-    requires { ⌜ length (now kinds) ≤ 65536 ⌝ }
-    ensures { λ r. ⌜ PartRead root (inside []) (now (kinds .entry)) at (now (table .entry)) r (now (table .exit)) ⌝ }
+fn root_at(marks: &[u8], at: usize, table: &mut [u32]) -> Read
+    requires { ⌜ length (now marks) ≤ 65536 ⌝ }
+    ensures { λ r. ⌜ PartRead root (inside []) (now (marks .entry)) at (now (table .entry)) r (now (table .exit)) ⌝ }
 {
-    if at >= kinds.len() {
+    if at >= marks.len() {
         return Read::Refused(at, Refusal::UNFINISHED);
     }
-    if is_open(kinds[at]) {
-        return element(kinds, at, 0, 0, table);
+    if is_open(marks[at]) {
+        return element(marks, at, 0, 0, table);
     }
-    if kinds[at] == Token::INSTANCE {
+    if marks[at] == Token::INSTANCE {
         put(table, at, 0);
         return Read::Next(at + 1);
     }
@@ -79,25 +80,25 @@ fn root_at(kinds: &[u8], at: usize, table: &mut [u32]) -> Read
 }
 
 // Reads what follows the root: a pair or nothing.
-fn closing(kinds: &[u8], at: usize, table: &mut [u32]) -> Read
-    ensures { λ r. ⌜ wholeOf r (now (table .exit)) ≡ walk (now (kinds .entry)) (inside []) at (now (table .entry)) ⌝ }
+fn closing(marks: &[u8], at: usize, table: &mut [u32]) -> Read
+    ensures { λ r. ⌜ wholeOf r (now (table .exit)) ≡ walk (now (marks .entry)) (inside []) at (now (table .entry)) ⌝ }
 {
-    if at >= kinds.len() {
+    if at >= marks.len() {
         return Read::Next(at);
     }
-    if kinds[at] != Token::PI_TARGET {
+    if marks[at] != Token::PI_TARGET {
         return Read::Refused(at, Refusal::NO_BODY); // only a pair follows the root
     }
-    at_end(kinds, instruction(kinds, at, 0, table))
+    at_end(marks, instruction(marks, at, 0, table))
 }
 
 // "then at most one pair": nothing follows it.
-fn at_end(kinds: &[u8], got: Read) -> Read
-    ensures { λ r. ⌜ r ≡ atEnd (now (kinds .entry)) got ⌝ }
+fn at_end(marks: &[u8], got: Read) -> Read
+    ensures { λ r. ⌜ r ≡ atEnd (now (marks .entry)) got ⌝ }
 {
     match got {
         Read::Next(next) => {
-            if next < kinds.len() {
+            if next < marks.len() {
                 return Read::Refused(next, Refusal::NO_BODY);
             }
             Read::Next(next)
@@ -107,42 +108,42 @@ fn at_end(kinds: &[u8], got: Read) -> Read
 }
 
 // Reads the element whose open token is at `at`, with the word `owner`, below `above` open elements.
-fn element(kinds: &[u8], at: usize, above: usize, owner: u32, table: &mut [u32]) -> Read
-    requires { ⌜ (at < length (now kinds)) × (length (now kinds) ≤ 65536) ⌝ }
-    ensures { λ r. ⌜ further (now (kinds .entry)) at r ⌝ }
-    ensures { λ r. ⌜ ElementRead (now (kinds .entry)) at above owner (now (table .entry)) r (now (table .exit)) ⌝ }
+fn element(marks: &[u8], at: usize, above: usize, owner: u32, table: &mut [u32]) -> Read
+    requires { ⌜ (at < length (now marks)) × (length (now marks) ≤ 65536) ⌝ }
+    ensures { λ r. ⌜ further (now (marks .entry)) at r ⌝ }
+    ensures { λ r. ⌜ ElementRead (now (marks .entry)) at above owner (now (table .entry)) r (now (table .exit)) ⌝ }
 {
     if above >= 64 {
         return Read::Refused(at, Refusal::TOO_DEEP);
     }
     put(table, at, owner);
     let me = (at + 1) as u32;
-    match open_tag(kinds, at + 1, me, table) {
+    match open_tag(marks, at, me, table) {
         Tagged::Empty(next) => Read::Next(next),
-        Tagged::Full(next) => content(kinds, next, above, me, table),
+        Tagged::Full(next) => content(marks, next, above, me, table),
         Tagged::Refused(place, number) => Read::Refused(place, number),
     }
 }
 
 // Reads content from `at` on, through the close element token of its element, whose word is `me`.
-fn content(kinds: &[u8], at: usize, above: usize, me: u32, table: &mut [u32]) -> Read
-    requires { ⌜ (at ≤ length (now kinds)) × (length (now kinds) ≤ 65536) × (above ≤ 65536) ⌝ }
-    ensures { λ r. ⌜ further (now (kinds .entry)) at r ⌝ }
-    ensures { λ r. ⌜ ContentRead (now (kinds .entry)) at above me (now (table .entry)) r (now (table .exit)) ⌝ }
+fn content(marks: &[u8], at: usize, above: usize, me: u32, table: &mut [u32]) -> Read
+    requires { ⌜ (at ≤ length (now marks)) × (length (now marks) ≤ 65536) × (above ≤ 65536) ⌝ }
+    ensures { λ r. ⌜ further (now (marks .entry)) at r ⌝ }
+    ensures { λ r. ⌜ ContentRead (now (marks .entry)) at above me (now (table .entry)) r (now (table .exit)) ⌝ }
 {
     let mut i = at;
-    while i < kinds.len() {
-        if kinds[i] == Token::CLOSE_ELEMENT {
+    while i < marks.len() {
+        if marks[i] == Token::CLOSE_ELEMENT {
             put(table, i, me);
             return Read::Next(i + 1);
         }
-        if is_open(kinds[i]) {
-            match element(kinds, i, above + 1, me, table) {
+        if is_open(marks[i]) {
+            match element(marks, i, above + 1, me, table) {
                 Read::Next(next) => i = next,
                 Read::Refused(place, number) => return Read::Refused(place, number),
             }
         } else {
-            match leaf(kinds, i, me, table) {
+            match leaf(marks, i, me, table) {
                 Read::Next(next) => i = next,
                 Read::Refused(place, number) => return Read::Refused(place, number),
             }
@@ -152,14 +153,14 @@ fn content(kinds: &[u8], at: usize, above: usize, me: u32, table: &mut [u32]) ->
 }
 
 // Reads what content holds beside elements: an item, CDATA, or an instruction.
-fn leaf(kinds: &[u8], at: usize, me: u32, table: &mut [u32]) -> Read
-    requires { ⌜ (at < length (now kinds)) × (getD (now kinds) at 0 ≡ closeElementKind → ⊥) × (isOpen (getD (now kinds) at 0) ≡ false) ⌝ }
-    ensures { λ r. ⌜ further (now (kinds .entry)) at r ⌝ }
-    ensures { λ r. ⌜ LeafRead (now (kinds .entry)) at me (now (table .entry)) r (now (table .exit)) ⌝ }
+fn leaf(marks: &[u8], at: usize, me: u32, table: &mut [u32]) -> Read
+    requires { ⌜ (at < length (now marks)) × (getD (now marks) at 0 ≡ closeElementKind → ⊥) × (isOpen (getD (now marks) at 0) ≡ false) ⌝ }
+    ensures { λ r. ⌜ further (now (marks .entry)) at r ⌝ }
+    ensures { λ r. ⌜ LeafRead (now (marks .entry)) at me (now (table .entry)) r (now (table .exit)) ⌝ }
 {
-    let k = kinds[at];
+    let k = marks[at];
     if k == Token::PI_TARGET {
-        return instruction(kinds, at, me, table);
+        return instruction(marks, at, me, table);
     }
     if is_leaf(k) {
         put(table, at, me);
@@ -169,60 +170,109 @@ fn leaf(kinds: &[u8], at: usize, me: u32, table: &mut [u32]) -> Read
 }
 
 // Reads a PI target and the PI data that must follow it, each with the word `me`: in content, or around the root.
-fn instruction(kinds: &[u8], at: usize, me: u32, table: &mut [u32]) -> Read
-    requires { ⌜ (at < length (now kinds)) × (getD (now kinds) at 0 ≡ piTargetKind) ⌝ }
-    ensures { λ r. ⌜ further (now (kinds .entry)) at r ⌝ }
-    ensures { λ r. ⌜ PairRead (now (kinds .entry)) at me (now (table .entry)) r (now (table .exit)) ⌝ }
+fn instruction(marks: &[u8], at: usize, me: u32, table: &mut [u32]) -> Read
+    requires { ⌜ (at < length (now marks)) × (getD (now marks) at 0 ≡ piTargetKind) ⌝ }
+    ensures { λ r. ⌜ further (now (marks .entry)) at r ⌝ }
+    ensures { λ r. ⌜ PairRead (now (marks .entry)) at me (now (table .entry)) r (now (table .exit)) ⌝ }
 {
     put(table, at, me);
-    if at + 1 >= kinds.len() {
+    if at + 1 >= marks.len() {
         return Read::Refused(at + 1, Refusal::UNFINISHED);
     }
-    if kinds[at + 1] != Token::PI_DATA {
+    if marks[at + 1] != Token::PI_DATA {
         return Read::Refused(at + 1, Refusal::NO_BODY); // nothing else may follow a target
     }
     put(table, at + 1, me);
     Read::Next(at + 2)
 }
 
-// Reads attributes with their items from `at` on, through the tag's close token. `last` is the last attribute's word, or 0.
-fn open_tag(kinds: &[u8], at: usize, me: u32, table: &mut [u32]) -> Tagged
-    requires { ⌜ (at ≤ length (now kinds)) × (length (now kinds) ≤ 65536) ⌝ }
-    ensures { λ r. ⌜ tagFurther (now (kinds .entry)) at r ⌝ }
-    ensures { λ r. ⌜ TagRead (now (kinds .entry)) at 0 me (now (table .entry)) r (now (table .exit)) ⌝ }
+// Reads an open tag, whose open token is at `at` and has the word `me` for what it owns, through its close token.
+fn open_tag(marks: &[u8], at: usize, me: u32, table: &mut [u32]) -> Tagged
+    requires { ⌜ (at < length (now marks)) × (length (now marks) ≤ 65536) ⌝ }
+    ensures { λ r. ⌜ tagFurther (now (marks .entry)) (at + 1) r ⌝ }
+    ensures { λ r. ⌜ OpenRead (now (marks .entry)) at me (now (table .entry)) r (now (table .exit)) ⌝ }
+{
+    if at + 1 >= marks.len() {
+        return Tagged::Refused(at + 1, Refusal::UNFINISHED);
+    }
+    if is_announcing(marks[at]) {
+        return announced_tag(marks, at + 1, me, table);
+    }
+    plain_tag(marks, at + 1, me, table)
+}
+
+// Reads on after an open token that announces attributes: one must follow.
+fn announced_tag(marks: &[u8], at: usize, me: u32, table: &mut [u32]) -> Tagged
+    requires { ⌜ (at < length (now marks)) × (length (now marks) ≤ 65536) ⌝ }
+    ensures { λ r. ⌜ tagFurther (now (marks .entry)) at r ⌝ }
+    ensures { λ r. ⌜ TagRead true (now (marks .entry)) at 0 me (now (table .entry)) r (now (table .exit)) ⌝ }
+{
+    if marks[at] == Token::ATTRIBUTE {
+        return attributes(marks, at, me, table);
+    }
+    Tagged::Refused(at, lacking(marks[at]))
+}
+
+// The number of another token's refusal there: the wide grammar goes on with a close token, so that is 20, and every other is 13.
+fn lacking(mark: u8) -> u8
+    ensures { λ r. ⌜ r ≡ lackingOf mark ⌝ }
+{
+    if mark == Token::CLOSE_EMPTY {
+        return Refusal::DISAGREE;
+    }
+    if mark == Token::CLOSE_START {
+        return Refusal::DISAGREE;
+    }
+    Refusal::NO_BODY
+}
+
+// Reads on after an open token that announces nothing: no attribute may follow.
+fn plain_tag(marks: &[u8], at: usize, me: u32, table: &mut [u32]) -> Tagged
+    requires { ⌜ at < length (now marks) ⌝ }
+    ensures { λ r. ⌜ tagFurther (now (marks .entry)) at r ⌝ }
+    ensures { λ r. ⌜ TagRead false (now (marks .entry)) at 0 me (now (table .entry)) r (now (table .exit)) ⌝ }
+{
+    if marks[at] == Token::ATTRIBUTE {
+        return Tagged::Refused(at, Refusal::DISAGREE);
+    }
+    tag_end(marks, at, me, table)
+}
+
+// Reads attributes with their items, the first at `at`, through the tag's close token. `last` is the last attribute's word.
+fn attributes(marks: &[u8], at: usize, me: u32, table: &mut [u32]) -> Tagged
+    requires { ⌜ (at < length (now marks)) × (length (now marks) ≤ 65536) × (getD (now marks) at 0 ≡ attributeKind) ⌝ }
+    ensures { λ r. ⌜ tagFurther (now (marks .entry)) at r ⌝ }
+    ensures { λ r. ⌜ TagRead true (now (marks .entry)) at 0 me (now (table .entry)) r (now (table .exit)) ⌝ }
 {
     let mut i = at;
     let mut last: u32 = 0;
-    while i < kinds.len() {
-        let k = kinds[i];
+    while i < marks.len() {
+        let k = marks[i];
         if k == Token::ATTRIBUTE {
             put(table, i, me);
             i += 1;
             last = i as u32;
         } else if is_item(k) {
-            if last == 0 {
-                return Tagged::Refused(i, Refusal::NO_BODY);
-            }
             put(table, i, last);
             i += 1;
         } else {
-            return tag_end(kinds, i, me, table);
+            return tag_end(marks, i, me, table);
         }
     }
     Tagged::Refused(i, Refusal::UNFINISHED)
 }
 
 // Reads the close token of an open tag.
-fn tag_end(kinds: &[u8], at: usize, me: u32, table: &mut [u32]) -> Tagged
-    requires { ⌜ (at < length (now kinds)) × (getD (now kinds) at 0 ≡ attributeKind → ⊥) × (isItem (getD (now kinds) at 0) ≡ false) ⌝ }
-    ensures { λ r. ⌜ tagFurther (now (kinds .entry)) at r ⌝ }
-    ensures { λ r. ⌜ TagEndRead (now (kinds .entry)) at me (now (table .entry)) r (now (table .exit)) ⌝ }
+fn tag_end(marks: &[u8], at: usize, me: u32, table: &mut [u32]) -> Tagged
+    requires { ⌜ (at < length (now marks)) × (getD (now marks) at 0 ≡ attributeKind → ⊥) ⌝ }
+    ensures { λ r. ⌜ tagFurther (now (marks .entry)) at r ⌝ }
+    ensures { λ r. ⌜ TagEndRead (now (marks .entry)) at me (now (table .entry)) r (now (table .exit)) ⌝ }
 {
-    if kinds[at] == Token::CLOSE_EMPTY {
+    if marks[at] == Token::CLOSE_EMPTY {
         put(table, at, me);
         return Tagged::Empty(at + 1);
     }
-    if kinds[at] == Token::CLOSE_START {
+    if marks[at] == Token::CLOSE_START {
         put(table, at, me);
         return Tagged::Full(at + 1);
     }
@@ -233,7 +283,17 @@ fn tag_end(kinds: &[u8], at: usize, me: u32, table: &mut [u32]) -> Tagged
 fn is_open(mark: u8) -> bool
     ensures { λ r. ⌜ r ≡ isOpen mark ⌝ }
 {
-    mark == Token::OPEN
+    if mark == Token::OPEN {
+        return true;
+    }
+    is_announcing(mark)
+}
+
+// One that announces attributes: the sheet marks it with its kind and 16 more.
+fn is_announcing(mark: u8) -> bool
+    ensures { λ r. ⌜ r ≡ announces mark ⌝ }
+{
+    mark == 18
 }
 
 // A value, a substitution, a char ref or an entity ref.

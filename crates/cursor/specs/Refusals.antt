@@ -57,3 +57,6 @@ wrongFile = 18
 
 abbrev pub wrongSheet : ℕ  -- document 02, P3: "not the stream's sheet, at the first word wrong, missing or extra"; the word's number
 wrongSheet = 19
+
+abbrev pub disagree : ℕ  -- document 02, P5: "attribute bit and attributes disagree"; token number
+disagree = 20

@@ -56,6 +56,8 @@ impl Refusal {
     pub const WRONG_FILE: u8 = 18;
 
     pub const WRONG_SHEET: u8 = 19;
+
+    pub const DISAGREE: u8 = 20;
 }
 
 // What a call that counts answers: how many tokens or answers there are, or a refusal. One enum for all crates.

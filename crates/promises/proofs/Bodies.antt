@@ -13,9 +13,11 @@ use Rattle.cursor.specs.Answers.{countAnswer}
 use Rattle.cursor.specs.Lent.{laid}
 use Rattle.tokens.specs.Walk.{Walked, ok}
 use Rattle.tokens.specs.declared.Token.{Token}
-use Rattle.sheet.specs.Sheet.{markOf, kindsOf}
+use Rattle.sheet.specs.Sheet.{markOf, marksOf}
+use Rattle.body.specs.Grammar.{wide, narrow}
 use Rattle.body.specs.Verdict.{Refuses, Verdict, a-body, Judged, read, tableAnswer, tableLeft, Answered}
 use Rattle.body.specs.Verdict as verdict
+use Rattle.body.proofs.Rules.{reading-wide}
 use Rattle.body.proofs.Agree.{one-table}
 use Rattle.body.proofs.One.{one-refusal, not-both}
 use Rattle.body.proofs.owners.Kinds as ownersK
@@ -38,36 +40,40 @@ module _ (l : List Token) (lent left : List ℕ) (o : Result ℕ) (room : length
         only-bodies = λ m h.
             let z : gives m ≡ gives (length l) = sym h ∙ a in
             (cc, (words, r));
-        one-reading = λ u v x y. one-table 64 64 (kindsOf l) u v x y;
-        table = λ u x. f ∙ d ∙ ap (λ (v : List ℕ). laid v lent) (one-table 64 64 (kindsOf l) words u r x);
+        one-reading = λ u v x y. one-table narrow narrow 64 64 (marksOf l) u v x y;
+        in-wide = λ u x. reading-wide (marksOf l) u narrow 64 x;
+        one-wide-table = λ limit u v x y. one-table narrow wide 64 limit (marksOf l) u v x y;
+        table = λ u x. f ∙ d ∙ ap (λ (v : List ℕ). laid v lent) (one-table narrow narrow 64 64 (marksOf l) words u r x);
         otherwise = λ h. absurd (h words r);
-        refuses-as = λ k p y. absurd (not-both (kindsOf l) words r y);
+        refuses-as = λ k p y. absurd (not-both (marksOf l) words r y);
         only-refusals = λ k p h. not-both-ways (length l) k p (sym a ∙ h);
       }
 
-  of-refusal : (k p : ℕ) → Refuses (kindsOf l) k p → o ≡ refuses k p → left ≡ lent → Decided l lent left o
+  of-refusal : (k p : ℕ) → Refuses (marksOf l) k p → o ≡ refuses k p → left ≡ lent → Decided l lent left o
   of-refusal k p y e f =
       record {
-        accepts = λ u x. absurd (not-both (kindsOf l) u x y);
+        accepts = λ u x. absurd (not-both (marksOf l) u x y);
         only-bodies = λ m h. not-both-ways m k p (sym h ∙ e);
-        one-reading = λ u v x z. one-table 64 64 (kindsOf l) u v x z;
-        table = λ u x. absurd (not-both (kindsOf l) u x y);
+        one-reading = λ u v x z. one-table narrow narrow 64 64 (marksOf l) u v x z;
+        in-wide = λ u x. reading-wide (marksOf l) u narrow 64 x;
+        one-wide-table = λ limit u v x z. one-table narrow wide 64 limit (marksOf l) u v x z;
+        table = λ u x. absurd (not-both (marksOf l) u x y);
         otherwise = λ h. (k, (p, (e, y, f)));
         refuses-as = λ m q z.
-            let d = one-refusal (kindsOf l) y z in
+            let d = one-refusal (marksOf l) y z in
             e ∙ (λ i. refuses (d .0 i) (d .1 i));
         only-refusals = λ m q h.
             let z : refuses k p ≡ refuses m q = sym e ∙ h in
             let a : k ≡ m = cc in
             let b : p ≡ q = cc in
-            subst (λ (x : ℕ). Refuses (kindsOf l) m x) b (subst (λ (x : ℕ). Refuses (kindsOf l) x p) a y);
+            subst (λ (x : ℕ). Refuses (marksOf l) m x) b (subst (λ (x : ℕ). Refuses (marksOf l) x p) a y);
       }
 
-  by-verdict : (v : Result (List ℕ)) → Verdict (kindsOf l) v → o ≡ tableAnswer v lent → left ≡ tableLeft v lent → Decided l lent left o
+  by-verdict : (v : Result (List ℕ)) → Verdict (marksOf l) v → o ≡ tableAnswer v lent → left ≡ tableLeft v lent → Decided l lent left o
   by-verdict v (a-body words r) e f = of-body words r e f
   by-verdict v (verdict.refused k p y) e f = of-refusal k p y e f
 
-on-tokens : (l : List Token) (v : Result (List ℕ)) → Judged (ok l) v → Verdict (kindsOf l) v
+on-tokens : (l : List Token) (v : Result (List ℕ)) → Judged (ok l) v → Verdict (marksOf l) v
 on-tokens l v (read m u d) = d
 
 pub decided : (lent left : List ℕ) (w : Walked) (o : Result ℕ) → Answered lent left w o → (l : List Token) → w ≡ ok l → length l ≤ length lent → Decided l lent left o

@@ -14,6 +14,7 @@ pub mod OfBody
 pub mod OfKept
 pub mod Bodies
 pub mod Around
+pub mod Exactly
 pub mod OfDoortumble
 pub mod OfPrint
 pub mod OfAnswers
@@ -32,4 +33,5 @@ pub mod PackedCalls
 pub mod EachToken
 pub mod Numbered
 pub mod Told
+pub mod Marks
 pub mod Words

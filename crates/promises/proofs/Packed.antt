@@ -17,9 +17,9 @@ use Rattle.tokens.specs.Table.{gistAt}
 use Rattle.tokens.specs.Walk.{Walked, ok, bad, turnAt, stepFrom, walkFrom, walkOf}
 use Rattle.tokens.specs.declared.Flags.{Flags}
 use Rattle.tokens.specs.declared.Token.{Token}
-use Rattle.sheet.specs.Sheet.{wordsOf, sheetAnswer, markOf, kindsOf}
+use Rattle.sheet.specs.Sheet.{wordsOf, sheetAnswer, markOf, marksOf}
 use Rattle.sheet.proofs.Laying.{words-length}
-use Rattle.body.specs.Verdict.{Refuses, no-body, too-deep, unfinished-body, a-body, Judged, unread, read, tableAnswer, Answered}
+use Rattle.body.specs.Verdict.{Refuses, no-body, too-deep, disagreeing, unfinished-body, a-body, Judged, unread, read, tableAnswer, Answered}
 use Rattle.body.specs.Verdict as verdict
 use Rattle.chunk.specs.Walk.{Choose, startOf}
 use Rattle.chunk.specs.Listing.{rowsOf, listsOn, Lists}
@@ -61,20 +61,21 @@ sheet-bits (ok l) lent h =
 sheet-bits (bad k p) lent h = small-bits k p h
 
 -- the owner table: a refusal by the grammar has a token's number for its place, or the number of tokens
-grammar-small : (kinds : List ℕ) {k p : ℕ} → Refuses kinds k p → length kinds ≤ 65536 → Small k p
-grammar-small kinds (no-body i x) h = (omega arith, omega (arith, x .there))
-grammar-small kinds (too-deep i x) h = (omega arith, omega (arith, x .there))
-grammar-small kinds (unfinished-body x) h = (omega arith, omega arith)
+grammar-small : (marks : List ℕ) {k p : ℕ} → Refuses marks k p → length marks ≤ 65536 → Small k p
+grammar-small marks (no-body i x) h = (omega arith, omega (arith, x .there))
+grammar-small marks (too-deep i x) h = (omega arith, omega (arith, x .there))
+grammar-small marks (disagreeing i x) h = (omega arith, omega (arith, x .there))
+grammar-small marks (unfinished-body x) h = (omega arith, omega arith)
 
-kinds-short : (l : List Token) → length l ≤ 65536 → length (kindsOf l) ≤ 65536
-kinds-short l h = omega (arith, length-map l markOf)
+marks-short : (l : List Token) → length l ≤ 65536 → length (marksOf l) ≤ 65536
+marks-short l h = omega (arith, length-map l markOf)
 
 verdict-bits : (lent : List ℕ) {w : Walked} {v : Result (List ℕ)} → Judged w v → WalkFits 65536 w → InBits (tableAnswer v lent)
 verdict-bits lent (unread k p) h = small-bits k p h
 verdict-bits lent (read l v (a-body words x)) h =
-    let n = kinds-short l h in
+    let n = marks-short l h in
     either InBits (leb (length words) (length lent)) _ _ (λ e. omega (arith, x .each)) (λ e. (omega arith, omega (arith, x .each)))
-verdict-bits lent (read l v (verdict.refused k p x)) h = small-bits k p (grammar-small (kindsOf l) x (kinds-short l h))
+verdict-bits lent (read l v (verdict.refused k p x)) h = small-bits k p (grammar-small (marksOf l) x (marks-short l h))
 
 owners-bits : (lent left : List ℕ) {w : Walked} {o : Result ℕ} → Answered lent left w o → WalkFits 65536 w → InBits o
 owners-bits lent left x h = subst InBits (sym (x .answer)) (verdict-bits lent (x .judged) h)

@@ -14,7 +14,8 @@ use Rattle.tokens.specs.Single.{singleOf}
 use Rattle.tokens.specs.Table.{gistAt}
 use Rattle.tokens.specs.Walk.{Walked, turnAt, stepFrom, walkFrom, walkOf}
 use Rattle.body.specs.Verdict.{Answered}
-use Rattle.body.specs.Reader.{opening, step, ended, outcome, wordsFrom}
+use Rattle.body.specs.Grammar.{kindOf}
+use Rattle.body.specs.Reader.{opening, turn, ended, outcome, wordsFrom}
 use Rattle.body.proofs.Answers.{answerOf, leftOf, answer-holds}
 use Rattle.promises.specs.Samples.{All, samples}
 
@@ -27,6 +28,6 @@ a-body : (w : Walked) (lent : List ℕ) (r : Result ℕ) (left : List ℕ) → a
 a-body w lent r left e f = subst (λ (l : List ℕ). Answered lent l w r) f (subst (Answered lent (leftOf w lent) w) e (answer-holds w lent))
 
 pub all-samples : All samples
-unfolding samples little arrayAt unitsOf beforeZero hashFrom unitsAt among knownCode widthOf sizedAt unsizedAt tableAt valuesAt singleOf gistAt turnAt stepFrom walkFrom walkOf opening step ended outcome wordsFrom
+unfolding samples little arrayAt unitsOf beforeZero hashFrom unitsAt among knownCode widthOf sizedAt unsizedAt tableAt valuesAt singleOf gistAt turnAt stepFrom walkFrom walkOf kindOf opening turn ended outcome wordsFrom
 all-samples =
-    refl and a-body _ _ _ _ refl refl and refl and a-body _ _ _ _ refl refl and refl and refl and refl and (refl, refl) and (refl, refl) and a-body _ _ _ _ refl refl and a-body _ _ _ _ refl refl and refl and refl and refl and refl and a-body _ _ _ _ refl refl and refl and refl and refl and refl and a-body _ _ _ _ refl refl and refl and refl and refl and refl and refl and refl and a-body _ _ _ _ refl refl and a-body _ _ _ _ refl refl and a-body _ _ _ _ refl refl and a-body _ _ _ _ refl refl and a-body _ _ _ _ refl refl and a-body _ _ _ _ refl refl and a-body _ _ _ _ refl refl and a-body _ _ _ _ refl refl and tt {0}
+    refl and a-body _ _ _ _ refl refl and refl and a-body _ _ _ _ refl refl and refl and refl and refl and (refl, refl) and (refl, refl) and a-body _ _ _ _ refl refl and a-body _ _ _ _ refl refl and refl and refl and refl and refl and a-body _ _ _ _ refl refl and refl and refl and refl and refl and a-body _ _ _ _ refl refl and refl and refl and refl and refl and refl and refl and a-body _ _ _ _ refl refl and a-body _ _ _ _ refl refl and a-body _ _ _ _ refl refl and a-body _ _ _ _ refl refl and a-body _ _ _ _ refl refl and a-body _ _ _ _ refl refl and a-body _ _ _ _ refl refl and a-body _ _ _ _ refl refl and a-body _ _ _ _ refl refl and a-body _ _ _ _ refl refl and a-body _ _ _ _ refl refl and a-body _ _ _ _ refl refl and a-body _ _ _ _ refl refl and a-body _ _ _ _ refl refl and a-body _ _ _ _ refl refl and tt {0}

@@ -4,6 +4,7 @@ pub mod Room
 pub mod Samples
 pub mod Packed
 pub mod Bodies
+pub mod Exactly
 pub mod Words
 pub mod Told
 pub mod Kept

@@ -1,6 +1,6 @@
 -- Document 01's sample streams that are to be proved (marked P there), as one list, their sheets restated with two words a token (document
--- 02, P2); an open byte 41, an inline name, and lent sheets; and bodies with a pair around the root (document 02, P4). Offset names; start 0
--- and whole length unless said.
+-- 02, P2); an open byte 41, an inline name, and lent sheets; bodies with a pair around the root (document 02, P4), and with open bytes that
+-- announce attributes and do not (P5). Offset names; start 0 and whole length unless said.
 use mathlib.Core.Path.{_≡_}
 use mathlib.Core.Bool.{Bool, true, false}
 use mathlib.Core.List.{List, [], _∷_}
@@ -121,6 +121,17 @@ aPair rest = aTarget (0x0B ∷ 0 ∷ 0 ∷ rest)
 abbrev pub anElement : List ℕ → List ℕ
 anElement rest = 0x01 ∷ 0 ∷ 0 ∷ 0 ∷ 0 ∷ 0 ∷ 2 ∷ 0 ∷ 0 ∷ 0x03 ∷ rest
 
+-- `01 00000000 00020000`, `41 00000000 00020000 00000000` and `06 00020000`: open tokens that announce nothing and attributes, and an
+-- attribute
+abbrev pub plainOpen : List ℕ → List ℕ
+plainOpen rest = 0x01 ∷ 0 ∷ 0 ∷ 0 ∷ 0 ∷ 0 ∷ 2 ∷ 0 ∷ 0 ∷ rest
+
+abbrev pub announcedOpen : List ℕ → List ℕ
+announcedOpen rest = 0x41 ∷ 0 ∷ 0 ∷ 0 ∷ 0 ∷ 0 ∷ 2 ∷ 0 ∷ 0 ∷ 0 ∷ 0 ∷ 0 ∷ 0 ∷ rest
+
+abbrev pub anAttribute : List ℕ → List ℕ
+anAttribute rest = 0x06 ∷ 0 ∷ 2 ∷ 0 ∷ 0 ∷ rest
+
 unfoldable pub samples : List Sample
 samples =
     -- "empty, length 0: read; as a body 15 at 0"
@@ -176,4 +187,15 @@ samples =
     bodies (whole (aPair (anInstance 2 0x08 (0x2A ∷ 0 ∷ 0 ∷ 0 ∷ aPair [])))) (9 ∷ 9 ∷ 9 ∷ 9 ∷ 9 ∷ []) (gives 5) (0 ∷ 0 ∷ 0 ∷ 0 ∷ 0 ∷ []) ∷
     -- and nothing follows the second pair
     bodies (whole (anElement (aPair (aTarget [])))) (9 ∷ []) (refuses 13 4) (9 ∷ []) ∷
+    -- P5: "An open byte of 01 followed by an attribute is refused at the attribute"; "41 followed by a close without any is refused at that
+    -- close token", a close empty or a close start
+    bodies (whole (plainOpen (anAttribute (0x03 ∷ [])))) (9 ∷ 9 ∷ 9 ∷ []) (refuses 20 1) (9 ∷ 9 ∷ 9 ∷ []) ∷
+    bodies (whole announcedElement) (9 ∷ 9 ∷ []) (refuses 20 1) (9 ∷ 9 ∷ []) ∷
+    bodies (whole (announcedOpen (0x02 ∷ 0x04 ∷ []))) (9 ∷ 9 ∷ 9 ∷ []) (refuses 20 1) (9 ∷ 9 ∷ 9 ∷ []) ∷
+    -- announced and present, with a value: it is a body
+    bodies (whole (announcedOpen (anAttribute (0x05 ∷ 0x01 ∷ 0 ∷ 0 ∷ 0x03 ∷ [])))) (9 ∷ 9 ∷ 9 ∷ 9 ∷ []) (gives 4) (0 ∷ 1 ∷ 2 ∷ 1 ∷ []) ∷
+    -- a close element right after 41 is in no body, whatever is announced; and after 41 alone, and after its attribute, more is to come
+    bodies (whole (announcedOpen (0x04 ∷ []))) (9 ∷ []) (refuses 13 1) (9 ∷ []) ∷
+    bodies (whole (announcedOpen [])) (9 ∷ []) (refuses 15 1) (9 ∷ []) ∷
+    bodies (whole (announcedOpen (anAttribute []))) (9 ∷ []) (refuses 15 2) (9 ∷ []) ∷
     []

@@ -14,7 +14,7 @@ use Rattle.tokens.specs.declared.Flags.{Flags}
 use Rattle.tokens.specs.declared.Token.{Token}
 use Rattle.tokens.proofs.Reach.{Grows}
 use Rattle.tokens.proofs.Steps.{step-grows, step-is}
-use Rattle.sheet.specs.Sheet.{wordsOfToken, wordsPerToken, wordsOf, markOf, kindsOf, handedOn, readFrom, readAt}
+use Rattle.sheet.specs.Sheet.{wordsOfToken, wordsPerToken, wordsOf, markOf, marksOf, handedOn, readFrom, readAt}
 
 -- numbers of tokens, one token's after another's, so many for each
 pub record Numbers : Type 0 where
@@ -30,7 +30,7 @@ abbrev pub words : Numbers
 words = record { each = wordsOf; one = wordsOfToken; width = wordsPerToken; none = refl; more = λ t l. refl; wide = λ t. refl }
 
 abbrev pub marks : Numbers
-marks = record { each = kindsOf; one = λ t. markOf t ∷ []; width = 1; none = refl; more = λ t l. refl; wide = λ t. refl }
+marks = record { each = marksOf; one = λ t. markOf t ∷ []; width = 1; none = refl; more = λ t l. refl; wide = λ t. refl }
 
 -- one number set, under another name; and at n, which is n times 1
 put-one : (left next : List ℕ) (i a b : ℕ) → next ≡ set left i a → a ≡ b → next ≡ sets left i (b ∷ [])

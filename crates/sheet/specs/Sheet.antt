@@ -55,12 +55,12 @@ abbrev pub sheetWords : Walked → List ℕ → List ℕ
 sheetWords (ok l) lent = pick (leb (length (wordsOf l)) (length lent)) (laid (wordsOf l) lent) lent
 sheetWords (bad k p) lent = lent
 
--- what the grammar reads of a token: its kind
+-- what the grammar reads of a token, its mark: the kind, and 16 more where attributes were announced
 abbrev pub markOf : Token → ℕ
-markOf t = t .kind
+markOf t = t .kind % 2 ^ 4 + flagBit (t .announced) * 2 ^ 4
 
-abbrev pub kindsOf : List Token → List ℕ
-kindsOf l = map markOf l
+abbrev pub marksOf : List Token → List ℕ
+marksOf l = map markOf l
 
 -- the tokens that a walk hands on before it ends or is refused
 abbrev pub handedOn : Answer Met → (ℕ → List Token) → List Token

@@ -49,11 +49,11 @@ abbrev element-claims : ℕ → element-lts.Claims
 element-claims t = (put-reads.Asked, put-reads.Learnt, open-tag-reads.Asked, open-tag-reads.Learnt, content-below t, content.Post)
 
 abbrev content-Inv-loop : content-lts.InvT-loop
-content-Inv-loop kinds at above me table₀ i₀ table i =
-    (at ≤ i) × (i ≤ length kinds) × (length table ≡ length table₀) × ((st : List ℕ) → length st ≡ above → walk kinds (inside (me ∷ st)) i table ≡ walk kinds (inside (me ∷ st)) at table₀)
+content-Inv-loop marks at above me table₀ i₀ table i =
+    (at ≤ i) × (i ≤ length marks) × (length table ≡ length table₀) × ((st : List ℕ) → length st ≡ above → walk marks (inside (me ∷ st)) i table ≡ walk marks (inside (me ∷ st)) at table₀)
 
 abbrev content-μ-loop : content-lts.MeasureT-loop
-content-μ-loop kinds at above me table₀ i₀ table i = length kinds - i
+content-μ-loop marks at above me table₀ i₀ table i = length marks - i
 
 content-loop-holds : (t : ℕ) → content-lts.Need-loop-holds (content-claims t) (content-at t) content.Post content-Inv-loop content-μ-loop
 content-loop-holds t c = (omega arith, omega (arith, c .before .before .pre), refl, λ st h. refl)
@@ -123,7 +123,9 @@ content-returns-4 : (t : ℕ) → content-lts.Need-returns-4 (content-claims t) 
 content-returns-4 t c = (tt {0}, λ st e. walking.inside-ended _ _ _ _ st (c .loop-test .left) ∙ c .before .loop .inv .3 st e)
 
 element-returns : (t : ℕ) → element-lts.Need-returns (element-claims t) (element-at t) element.Post
-element-returns t c = (tt {0}, λ st e. walking.opened-deep _ _ _ _ st (omega (arith, e, c .if1 .taken)))
+element-returns t c =
+    let a = c .before .before .before .args in
+    (tt {0}, λ st e. walking.opened-deep (a .marks .now) (a .at) _ _ st (omega (arith, e, c .if1 .taken)))
 
 element-content-requires : (t : ℕ) → element-lts.Need-content-requires (element-claims t) (element-at t) element.Post
 element-content-requires t c κs =
@@ -206,7 +208,6 @@ pub +content+element-spec : {M : Type 1} → statement M
     element.Post
     (element-returns t)
     (λ c κs. search needs)
-    (λ c. omega arith)
     (λ c. omega arith)
     (λ c. omega arith)
     (λ c κs. search needs)

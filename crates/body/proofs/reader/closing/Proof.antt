@@ -18,7 +18,7 @@ returns-2 c =
 returns-3 : tie.Need-returns-3
 returns-3 c =
     let got = c .before .before .before .instruction in
-    ap (λ (r : Read). wholeOf r (got .last .1 .1 .1 .0)) (c .at-end .ensures) ∙ walking.at-end _ _ (got .result) ∙ got .ensures .1 _ _ (walking.closes _)
+    ap (λ (r : Read). wholeOf r (got .last .1 .1 .1 .0)) (c .at-end .ensures) ∙ walking.at-end _ _ (got .result) ∙ got .ensures .1 _ _ (walking.follows _)
 
 pub closing-spec : {M : Type 1} → statement M
 closing-spec =

@@ -9,20 +9,20 @@ returns : tie.Need-returns
 returns c =
     let p = c .before .before .before .before .before .before .before .before .pre in (
       omega (arith, p .0),
-      λ last st. walking.tag-empty _ _ _ (p .0) last _ st _ (c .before .before .before .before .if1 .taken) (c .before .before .put .ensures),
+      λ announced last q i st. walking.tag-empty _ _ _ (p .0) announced last _ st _ q (c .before .before .before .before .if1 .taken) (c .before .before .put .ensures),
     )
 
 returns-2 : tie.Need-returns-2
 returns-2 c =
     let p = c .before .before .before .before .before .before .before .before .before .before .pre in (
       omega (arith, p .0),
-      λ last st. walking.tag-full _ _ _ (p .0) last _ st _ (c .before .before .before .before .if2 .taken) (c .before .before .put2 .ensures),
+      λ announced last q i st. walking.tag-full _ _ _ (p .0) announced last _ st _ q (c .before .before .before .before .if2 .taken) (c .before .before .put2 .ensures),
     )
 
 returns-3 : tie.Need-returns-3
 returns-3 c =
     let p = c .before .before .before .before .before .before .pre in
-    (tt {0}, λ last st. walking.tag-other _ _ _ (p .0) last _ st (p .1) (c .before .before .if1 .left) (c .if2 .left) (p .2))
+    (tt {0}, λ announced last q i st. walking.tag-other _ _ _ (p .0) announced last _ st (p .1) (c .before .before .if1 .left) (c .if2 .left) i)
 
 pub tag-end-spec : {M : Type 1} → statement M
 tag-end-spec =
