@@ -30,14 +30,14 @@ fn unknown_token() {
 
 #[test]
 fn element_and_its_dependency() {
-    let plain = "0 9 2 512 - 0\n9 1 4\nok 2\n.\n";
+    let plain = "0 9 2 512 - 0 -\n9 1 4\nok 2\n.\n";
     assert_eq!(walk("01 00000000 00020000 03 00"), plain);
     let with_dependency = |text: &str| {
         let data = hex(text);
         answers(&case(b'T', 1, 0, data.len() as u32, &data))
     };
-    let none = "0 11 2 512 - 0\n11 1 4\nok 2\n.\n";
-    let zero = "0 11 2 512 0 0\n11 1 4\nok 2\n.\n";
+    let none = "0 11 2 512 - 0 -\n11 1 4\nok 2\n.\n";
+    let zero = "0 11 2 512 0 0 -\n11 1 4\nok 2\n.\n";
     assert_eq!(with_dependency("01 FFFF 00000000 00020000 03 00"), none);
     assert_eq!(with_dependency("01 0000 00000000 00020000 03 00"), zero);
 }
@@ -45,21 +45,62 @@ fn element_and_its_dependency() {
 /// Document 02, P2: "if an open byte was 41 or 01, and where its name stands".
 #[test]
 fn announced_and_name() {
-    let announced = "0 13 2 512 - 1\n13 1 4\nok 2\n.\n";
+    let announced = "0 13 2 512 - 1 -\n13 1 4\nok 2\n.\n";
     assert_eq!(walk("41 00000000 00020000 00000000 03 00"), announced);
     // The byte decides, whatever follows.
-    let attribute = "0 9 2 0 - 0\n9 5 7 4294967295\n14 1 4\nok 3\n.\n";
+    let attribute = "0 9 2 0 - 0 -\n9 5 7 4294967295 -\n14 1 4\nok 3\n.\n";
     assert_eq!(walk("01 00000000 00000000 06 FFFFFFFF 03"), attribute);
     // A name in place: its offset is where it stands.
-    let in_place = "0 23 2 9 - 1\n23 1 4\nok 2\n.\n";
+    let in_place = "0 23 2 9 - 1 -\n23 1 4\nok 2\n.\n";
     let text = "41 00000000 09000000 00000000 0000 0000 0000 00000000 03";
     assert_eq!(walk(text), in_place);
     // An inline name's is its start, counted from the stream's byte 0.
     let inline = hex("AA 41 0000 00000000 0000 0000 0000 00000000 0A 0000 0000 0000");
-    let lines = "1 17 2 8 0 1\n18 7 9 19\nok 2\n.\n";
+    let lines = "1 17 2 8 0 1 1\n18 7 9 19 1\nok 2\n.\n";
     assert_eq!(answers(&case(b'T', 3, 1, 24, &inline)), lines);
     // Cut in the length that only 41 has.
     assert_eq!(walk("41 00000000 00020000 000000"), "refused 3 9\n.\n");
+}
+
+/// Document 02, P7: "each high surrogate followed by a low one, no low one alone".
+#[test]
+fn soundness() {
+    // A pair, a high one alone, a low one alone, and the two in the wrong order.
+    assert_eq!(walk("07 0200 00D8 00DC"), "0 7 11 00d800dc 1\nok 1\n.\n");
+    assert_eq!(walk("07 0100 FFDB"), "0 5 11 ffdb 0\nok 1\n.\n");
+    assert_eq!(walk("0B 0100 FFDF"), "0 5 10 ffdf 0\nok 1\n.\n");
+    assert_eq!(walk("0B 0200 00DC 00D8"), "0 7 10 00dc00d8 0\nok 1\n.\n");
+    // Their neighbours are no surrogates, and a text without units is sound.
+    assert_eq!(walk("07 0200 FFD7 00E0"), "0 7 11 ffd700e0 1\nok 1\n.\n");
+    assert_eq!(walk("07 0000"), "0 3 11 - 1\nok 1\n.\n");
+    // A text is judged on its view, which a zero unit cuts.
+    assert_eq!(walk("07 0300 4100 0000 00D8"), "0 9 11 4100 1\nok 1\n.\n");
+    assert_eq!(walk("07 0300 00D8 0000 00DC"), "0 9 11 00d8 0\nok 1\n.\n");
+    // Strings with a size and without.
+    let string = "0 6 6 01:-:2:6:x00dc\nok 1\n.\n";
+    assert_eq!(walk("05 01 0100 00DC"), string);
+    let sized = "0 20 1 7 512 - 1 01:2:18:20:x00d8\nok 1\n.\n";
+    assert_eq!(instance(2, 0x01, "00D8"), sized);
+    // No array and no bytes are text.
+    let array = "0 20 1 7 512 - 1 81:2:18:20:b0000\nok 1\n.\n";
+    assert_eq!(instance(2, 0x81, "0000"), array);
+}
+
+/// "An inline name is judged on all its counted units"; "offset names aren't judged".
+#[test]
+fn soundness_of_names() {
+    let inline = |text: &str| {
+        let data = hex(text);
+        answers(&case(b'T', 2, 0, data.len() as u32, &data))
+    };
+    let sound = "0 11 7 1 1\nok 1\n.\n";
+    assert_eq!(inline("06 4110 0200 4100 4200 0000"), sound);
+    // The high surrogate stands behind a zero unit: the hash is D800.
+    let unsound = "0 11 8 1 0\nok 1\n.\n";
+    assert_eq!(inline("09 00D8 0200 0000 00D8 0000"), unsound);
+    // In place, with half a pair: no word about it.
+    let offset = "0 17 9 5 -\nok 1\n.\n";
+    assert_eq!(walk("0A 05000000 00000000 0000 0100 00D8 0000"), offset);
 }
 
 #[test]

@@ -136,12 +136,7 @@ impl Stream {
 /// One element full of elements of four shapes: a text in an attribute and a substitution as
 /// content, a text as content, empty, and two attributes with substitutions.
 pub fn elements(dependencies: bool, inline_names: bool) -> Stream {
-    let mut maker = Maker {
-        bytes: Vec::new(),
-        dependencies,
-        inline_names,
-        names: NAMES.map(|_| None),
-    };
+    let mut maker = Maker::new(dependencies, inline_names);
     maker.open(0, false);
     maker.put(&[0x02]);
     for turn in 0.. {
@@ -180,6 +175,46 @@ pub fn elements(dependencies: bool, inline_names: bool) -> Stream {
     }
     maker.put(&[0x04, 0x00]);
     Stream::whole(maker.bytes, dependencies, inline_names)
+}
+
+/// How many units a long text or name has.
+const LONG_TEXT: usize = 1000;
+
+/// The units of a long text or name: letters, and a pair of surrogates now and then.
+fn long_units() -> Vec<u16> {
+    "Ein Tagname \u{1f3ed} "
+        .encode_utf16()
+        .cycle()
+        .take(LONG_TEXT)
+        .collect()
+}
+
+/// One element that holds nothing but long texts, each behind these bytes: a string's or CDATA's.
+pub fn long_texts(front: &[u8]) -> Stream {
+    let mut maker = Maker::new(false, false);
+    maker.open(0, false);
+    maker.put(&[0x02]);
+    while maker.bytes.len() < LONG - 2 * LONG_TEXT {
+        maker.put(front);
+        maker.put_units(&long_units());
+    }
+    maker.put(&[0x04, 0x00]);
+    Stream::whole(maker.bytes, false, false)
+}
+
+/// One element full of empty ones, each with a long inline name.
+pub fn long_names() -> Stream {
+    let mut maker = Maker::new(false, true);
+    maker.open(0, false);
+    maker.put(&[0x02]);
+    while maker.bytes.len() < LONG - 2 * LONG_TEXT {
+        maker.put(&[0x01, 0, 0, 0, 0]);
+        maker.put16(hash(long_units()));
+        maker.put_units(&long_units());
+        maker.put(&[0, 0, 0x03]);
+    }
+    maker.put(&[0x04, 0x00]);
+    Stream::whole(maker.bytes, false, true)
 }
 
 /// Instances of 20 values one after the other, which is no body.
@@ -277,7 +312,22 @@ struct Maker {
     names: [Option<u32>; NAMES.len()],
 }
 
+/// The hash of a name.
+fn hash(units: impl IntoIterator<Item = u16>) -> u16 {
+    let step = |hash: u32, unit: u16| hash.wrapping_mul(65599).wrapping_add(u32::from(unit));
+    units.into_iter().fold(0, step) as u16
+}
+
 impl Maker {
+    fn new(dependencies: bool, inline_names: bool) -> Self {
+        Maker {
+            bytes: Vec::new(),
+            dependencies,
+            inline_names,
+            names: NAMES.map(|_| None),
+        }
+    }
+
     fn put(&mut self, bytes: &[u8]) {
         self.bytes.extend(bytes);
     }
@@ -291,16 +341,20 @@ impl Maker {
     }
 
     fn units(&mut self, text: &str) {
-        self.put16(text.len() as u16);
-        for unit in text.encode_utf16() {
+        let units: Vec<u16> = text.encode_utf16().collect();
+        self.put_units(&units);
+    }
+
+    fn put_units(&mut self, units: &[u16]) {
+        self.put16(units.len() as u16);
+        for &unit in units {
             self.put16(unit);
         }
     }
 
     fn name(&mut self, number: usize) {
         let name = NAMES[number];
-        let step = |hash: u32, unit: u16| hash.wrapping_mul(65599).wrapping_add(u32::from(unit));
-        let hash = name.encode_utf16().fold(0, step) as u16;
+        let hash = hash(name.encode_utf16());
         if self.inline_names {
             self.put16(hash);
         } else if let Some(offset) = self.names[number] {

@@ -13,6 +13,7 @@ mod stored;
 mod stored_bodies;
 mod stored_tokens;
 mod streams;
+pub mod texts;
 mod token_cases;
 mod types;
 
@@ -20,7 +21,7 @@ pub use crate::oracle::batch::Case;
 use random::Random;
 
 /// The first `count` cases of a kind, if there is such a kind. The stored ones, those of the type
-/// codes, short streams and short lists are the same for every seed; of `three` the seed is the first byte; the others
+/// codes, texts, short streams and short lists are the same for every seed; of `three` the seed is the first byte; the others
 /// have no end.
 pub fn make(kind: &str, seed: u64, count: usize) -> Option<Box<dyn Iterator<Item = Case>>> {
     let of_one_input = match kind {
@@ -28,6 +29,7 @@ pub fn make(kind: &str, seed: u64, count: usize) -> Option<Box<dyn Iterator<Item
         "short" => return Some(Box::new(short::cases().take(count))),
         "three" => return Some(Box::new(short::of_three(seed as u8).take(count))),
         "types" => return Some(Box::new(types::cases().take(count))),
+        "texts" => return Some(Box::new(texts::cases(texts::MOST).take(count))),
         "lists" => return Some(Box::new(body_cases::short_lists().take(count))),
         "chunk" => chunk_cases::of_one_chunk,
         "file" => file_cases::of_one_file,

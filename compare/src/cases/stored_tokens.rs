@@ -2,6 +2,7 @@
 
 use super::Case;
 use super::streams::{KNOWN, width};
+use super::texts;
 use super::token_cases::case;
 
 /// The token bytes that the walk knows.
@@ -158,6 +159,7 @@ pub fn cases() -> Vec<Case> {
     cases.extend(samples(NAMES));
     cases.extend(later(NAMES));
     cases.extend(samples(REFUSED));
+    cases.extend(texts::cases(2));
     cases.extend(token_bytes());
     cases.extend(cuts());
     cases.extend(windows());

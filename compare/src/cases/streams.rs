@@ -420,11 +420,11 @@ impl<'a> Maker<'a> {
         self.put16(count);
     }
 
-    /// A unit of a text: some are zero, and some hold one zero byte.
+    /// A unit of a text: some are zero, some hold one zero byte, and some are surrogates.
     fn unit(&mut self) -> u16 {
         let any = self.random.word() as u16;
         self.random
-            .one_of(&[0, 0x41, 0x42, 0x4100, 0xd800, 0xffff, any, any])
+            .one_of(&[0, 0x41, 0x42, 0x4100, 0xd800, 0xdc00, 0xffff, any, any])
     }
 
     /// A token that holds a text.

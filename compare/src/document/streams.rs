@@ -3,7 +3,7 @@
 use super::reader::{Read, Reader};
 use super::values::{self, Value};
 use crate::oracle::refusal::Refusal;
-use crate::oracle::tokens::{Asked, Row, push_open};
+use crate::oracle::tokens::{Asked, Row, push_open, push_soundness};
 use crate::oracle::{CHUNK_SIZE, hex, kinds};
 use std::fmt::Write;
 
@@ -15,9 +15,17 @@ pub struct Instance {
     pub values: Vec<Value>,
 }
 
+/// A name: its offset, and of an inline one whether it is well-formed UTF-16. "An inline name is judged on all its counted
+/// units"; "offset names aren't judged" (document 02, P7).
+#[derive(Clone, Copy)]
+struct Name {
+    offset: u32,
+    sound: Option<bool>,
+}
+
 /// An open token. "The token record gains both": "if an open byte was 41 or 01, and where its name stands" (document 02, P2).
 struct Open {
-    name: u32,
+    name: Name,
     dependency: Option<u16>,
     announced: bool,
 }
@@ -27,7 +35,7 @@ enum Held<'a> {
     Nothing,
     Instance(Instance),
     Open(Open),
-    Name(u32),
+    Name(Name),
     /// A view's bytes.
     Text(&'a [u8]),
     CharRef(u16),
@@ -135,12 +143,15 @@ fn open(reader: &mut Reader<'_>, announced: bool, asked: Asked) -> Read<Open> {
     })
 }
 
-/// A name's offset; an inline one's is its start.
-fn name(reader: &mut Reader<'_>, inline: bool) -> Read<u32> {
+/// A name; an inline one's offset is its start.
+fn name(reader: &mut Reader<'_>, inline: bool) -> Read<Name> {
     let start = reader.at;
     if inline {
-        inline_name(reader)?;
-        return Ok(start as u32);
+        let units = inline_name(reader)?;
+        return Ok(Name {
+            offset: start as u32,
+            sound: Some(values::sound(units)),
+        });
     }
     // "Offset name: u32; if it equals the position after it, a u32, a u16 and a u16 n follow, and the position is set 10
     // + 2n past that point."
@@ -152,15 +163,19 @@ fn name(reader: &mut Reader<'_>, inline: bool) -> Read<u32> {
         let units = usize::from(reader.half()?);
         reader.set(after + 10 + 2 * units)?;
     }
-    Ok(offset)
+    Ok(Name {
+        offset,
+        sound: None,
+    })
 }
 
 /// "Inline name: hash u16, count u16, units, zero unit; hash is h·65599 + unit modulo 2^32 from 0, low 16 bits. 11 comes
-/// before 12."
-fn inline_name(reader: &mut Reader<'_>) -> Read<()> {
+/// before 12." What is handed back are the bytes of its units.
+fn inline_name<'a>(reader: &mut Reader<'a>) -> Read<&'a [u8]> {
     let start = reader.at;
     let stored = reader.half()?;
     let count = reader.half()?;
+    let mut units = *reader;
     let mut hash: u32 = 0;
     for _ in 0..count {
         hash = hash
@@ -173,7 +188,7 @@ fn inline_name(reader: &mut Reader<'_>) -> Read<()> {
     if hash as u16 != stored {
         return Reader::refuse(12, start);
     }
-    Ok(())
+    units.take(2 * usize::from(count))
 }
 
 /// "CDATA and PI data: u16 n, then n units; the view stops before the first zero unit."
@@ -231,8 +246,8 @@ impl Token<'_> {
         let (announced, name) = match self.held {
             Held::Open(Open {
                 announced, name, ..
-            }) => (announced, name),
-            Held::Name(name) => (false, name),
+            }) => (announced, name.offset),
+            Held::Name(name) => (false, name.offset),
             _ => (false, 0),
         };
         Row {
@@ -256,9 +271,18 @@ impl Token<'_> {
                 name,
                 dependency,
                 announced,
-            }) => push_open(out, *name, *dependency, *announced),
-            Held::Name(name) => write!(out, " {name}"),
-            Held::Text(view) => write!(out, " {}", hex(view)),
+            }) => {
+                push_open(out, name.offset, *dependency, *announced)?;
+                push_soundness(out, name.sound)
+            }
+            Held::Name(name) => {
+                write!(out, " {}", name.offset)?;
+                push_soundness(out, name.sound)
+            }
+            Held::Text(view) => {
+                write!(out, " {}", hex(view))?;
+                push_soundness(out, Some(values::sound(view)))
+            }
             Held::CharRef(number) => write!(out, " {number}"),
             Held::Substitution(number, optional) => {
                 write!(out, " {number} {}", u8::from(*optional))

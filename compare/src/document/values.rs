@@ -60,6 +60,19 @@ pub(super) fn view(bytes: &[u8]) -> &[u8] {
     &bytes[..2 * count]
 }
 
+/// "well-formed UTF-16 (each high surrogate followed by a low one, no low one alone)" (document 02, P7).
+pub(super) fn sound(bytes: &[u8]) -> bool {
+    let units: Vec<u16> = bytes
+        .chunks_exact(2)
+        .map(|unit| number(unit) as u16)
+        .collect();
+    let high = |at: usize| matches!(units.get(at), Some(0xd800..=0xdbff));
+    let low = |at: usize| matches!(units.get(at), Some(0xdc00..=0xdfff));
+    let followed = (0..units.len()).all(|at| !high(at) || low(at + 1));
+    let alone = (0..units.len()).any(|at| low(at) && (at == 0 || !high(at - 1)));
+    followed && !alone
+}
+
 /// "With a size s: .. Short read: on to start plus s. Read past s: the position stays."
 pub(super) fn read_sized(reader: &mut Reader<'_>, code: u8, size: u16) -> Read<Value> {
     let (start, s) = (reader.at, usize::from(size));
@@ -132,7 +145,9 @@ fn read_sid<'a>(reader: &mut Reader<'a>) -> Read<&'a [u8]> {
 fn content(code: u8, bytes: &[u8]) -> String {
     match code {
         0x00 => "n".to_owned(),
-        0x01 => format!("t{}", hex(bytes)),
+        // "Strings .. pass this on", "Unsound text is still handed out" (document 02, P7).
+        0x01 if sound(bytes) => format!("t{}", hex(bytes)),
+        0x01 => format!("x{}", hex(bytes)),
         0x03 | 0x05 | 0x07 | 0x09 => {
             let unused = 64 - 8 * bytes.len();
             format!("i{}", (number(bytes) << unused) as i64 >> unused)

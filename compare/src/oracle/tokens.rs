@@ -15,6 +15,9 @@
 //! not told; only the printed reader of open tokens is, and it reads four bytes more then. So that
 //! reader is run again after the token byte, with both answers: the walk gave it the one with which
 //! it ends where the round did.
+//!
+//! Whether a text or a name is sound the printed walk tells nobody either. The standard library's decoder of UTF-16 is asked: for a
+//! text on the view that the sink is told, for an inline name on its counted units.
 
 use crate::binxml::BinXmlTemplateValues;
 use crate::binxml::tokens::{
@@ -250,8 +253,21 @@ struct Placed<'a> {
     next: usize,
     /// It is an open token that announces attributes.
     announced: bool,
+    /// Its name is inline.
+    inline: bool,
     /// The values, if it is an instance.
     values: Option<Fields>,
+}
+
+impl Placed<'_> {
+    /// Whether the units of its name, which stands there, decode, if it is inline: a hash and a count stand before them.
+    fn name_decodes(&self, data: &[u8], name: ChunkOffset) -> Option<bool> {
+        let head = name as usize;
+        self.inline.then(|| {
+            let count = u16::from_le_bytes([data[head + 2], data[head + 3]]);
+            values::decodes(&data[head + 4..][..2 * usize::from(count)])
+        })
+    }
 }
 
 /// A walk: the tokens before its end, how it ended, and what it meets.
@@ -300,6 +316,7 @@ fn walked<R>(data: &[u8], asked: Asked, then: impl FnOnce(Walked<'_>) -> R) -> R
             place,
             next,
             announced,
+            inline: asked.inline_names,
             values,
         }
     };
@@ -381,11 +398,18 @@ fn push_line(data: &[u8], placed: &Placed<'_>, out: &mut String) -> std::fmt::Re
     write!(out, "{place} {} {}", next - place, placed.token.kind())?;
     match &placed.token {
         Token::CloseStart | Token::CloseEmpty | Token::CloseElement => Ok(()),
-        Token::Open(name, dependency) => push_open(out, *name, *dependency, placed.announced),
-        Token::Attribute(name) | Token::EntityRef(name) | Token::PiTarget(name) => {
-            write!(out, " {name}")
+        Token::Open(name, dependency) => {
+            push_open(out, *name, *dependency, placed.announced)?;
+            push_soundness(out, placed.name_decodes(data, *name))
         }
-        Token::PiData(text) | Token::Cdata(text) => write!(out, " {}", hex(text.as_bytes())),
+        Token::Attribute(name) | Token::EntityRef(name) | Token::PiTarget(name) => {
+            write!(out, " {name}")?;
+            push_soundness(out, placed.name_decodes(data, *name))
+        }
+        Token::PiData(text) | Token::Cdata(text) => {
+            write!(out, " {}", hex(text.as_bytes()))?;
+            push_soundness(out, Some(values::decodes(text.as_bytes())))
+        }
         Token::CharRef(number) => write!(out, " {number}"),
         Token::Substitution(number, optional) => write!(out, " {number} {}", u8::from(*optional)),
         Token::Value(value) => {
@@ -417,6 +441,12 @@ pub(crate) fn push_open(
 ) -> std::fmt::Result {
     let dependency = dependency.map_or("-".to_owned(), |dependency| dependency.to_string());
     write!(out, " {name} {dependency} {}", u8::from(announced))
+}
+
+/// What mode T says of a text or a name last: 1 where it is sound, 0 where not, `-` where it is not judged.
+pub(crate) fn push_soundness(out: &mut String, sound: Option<bool>) -> std::fmt::Result {
+    let sound = sound.map_or("-".to_owned(), |sound| u8::from(sound).to_string());
+    write!(out, " {sound}")
 }
 
 /// Mode S.

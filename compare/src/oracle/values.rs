@@ -129,7 +129,8 @@ pub(super) fn content(code: u8, value: &BinXmlValue<'_>, raw: &[u8]) -> String {
     use BinXmlValue as V;
     match value {
         V::NullType => "n".to_owned(),
-        V::StringType(view) => format!("t{}", hex(view.as_bytes())),
+        V::StringType(view) if decodes(view.as_bytes()) => format!("t{}", hex(view.as_bytes())),
+        V::StringType(view) => format!("x{}", hex(view.as_bytes())),
         V::Int8Type(number) => format!("i{number}"),
         V::Int16Type(number) => format!("i{number}"),
         V::Int32Type(number) if code == BOOLEAN => format!("u{}", number.cast_unsigned()),
@@ -145,6 +146,12 @@ pub(super) fn content(code: u8, value: &BinXmlValue<'_>, raw: &[u8]) -> String {
         V::Real64Type(real) => format!("f{:016x}", real.to_bits()),
         value => format!("b{}", hex(&stored(value, raw))),
     }
+}
+
+/// Whether the standard library's decoder of UTF-16 takes these units.
+pub(super) fn decodes(bytes: &[u8]) -> bool {
+    let units = bytes.as_chunks::<2>().0.iter();
+    char::decode_utf16(units.map(|&unit| u16::from_le_bytes(unit))).all(|char| char.is_ok())
 }
 
 /// The stored bytes of a value that is written as bytes.

@@ -3,3 +3,4 @@ pub mod Choice
 pub mod Numbers
 pub mod Magic
 pub mod Units
+pub mod Formed

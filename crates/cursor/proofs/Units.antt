@@ -31,6 +31,20 @@ unit-is (a ∷ (b ∷ t)) (suc n) h =
     let e : 2 * suc n ≡ suc (suc (2 * n)) = omega arith in
     unit-is t n (omega arith) ∙ ap (λ (m : ℕ). little (bytesOf (a ∷ (b ∷ t)) m 2)) (sym e)
 
+-- the first units are those of the first bytes
+pub units-front : (t : List ℕ) (n : ℕ) → unitsOf (take (2 * n) t) ≡ take n (unitsOf t)
+unfolding unitsOf
+units-front t zero = refl
+units-front [] (suc n) =
+    let e : 2 * suc n ≡ suc (suc (2 * n)) = omega arith in
+    ap (λ (m : ℕ). unitsOf (take m [])) e
+units-front (a ∷ []) (suc n) =
+    let e : 2 * suc n ≡ suc (suc (2 * n)) = omega arith in
+    ap (λ (m : ℕ). unitsOf (take m (a ∷ []))) e
+units-front (a ∷ (b ∷ t)) (suc n) =
+    let e : 2 * suc n ≡ suc (suc (2 * n)) = omega arith in
+    ap (λ (m : ℕ). unitsOf (take m (a ∷ (b ∷ t)))) e ∙ ap (λ (r : List ℕ). (a + 256 * b) ∷ r) (units-front t n)
+
 -- at the unit n: the first zero is here, later, or nowhere
 module _ (us : List ℕ) (n : ℕ) where
   pub zero-here : n < length us → getD us n 0 ≡ 0 → beforeZero (drop n us) ≡ 0

@@ -1,9 +1,10 @@
--- Texts in UTF-16: counted units, and units up to a zero unit. Document 01, "Token walk" and "Values"; the Rust, byte_cursor.rs.
-use mathlib.Core.Bool.{Bool}
+-- Texts in UTF-16: counted units, units up to a zero unit, and whether units are well-formed. Document 01, "Token walk" and "Values";
+-- document 02, P7; the Rust, byte_cursor.rs.
+use mathlib.Core.Bool.{Bool, false, not, _&&_}
 use mathlib.Core.List.{List, [], _∷_}
 use Prim.Native.Nat.{ℕ, _+_, _*_}
-use lib.Dec.{ltb, eqb}
-use lib.ListN.{length, drop}
+use lib.Dec.{leb, ltb, eqb}
+use lib.ListN.{length, take, drop}
 use Rattle.cursor.specs.Answer.{Answer, given, refused, _then_, pick}
 use Rattle.cursor.specs.Refusals.{tooFew}
 use Rattle.cursor.specs.Reads.{bytesOf, numberAt, takeAt, partMoved}
@@ -20,13 +21,34 @@ unfoldable pub beforeZero : List ℕ → ℕ
 beforeZero [] = 0
 beforeZero (u ∷ us) = pick (eqb u 0) 0 (beforeZero us + 1)
 
--- "the view stops before the first zero unit": the view of a text that has these units, from a position on. Every view is this one,
+-- the units before the first zero unit
+abbrev pub shownOf : List ℕ → List ℕ
+shownOf units = take (beforeZero units) units
+
+-- high surrogates are D800 to DBFF, low ones DC00 to DFFF
+abbrev pub highSurrogate : ℕ → Bool
+highSurrogate u = leb 0xD800 u && leb u 0xDBFF
+
+abbrev pub lowSurrogate : ℕ → Bool
+lowSurrogate u = leb 0xDC00 u && leb u 0xDFFF
+
+-- units that stand right behind a high surrogate, or do not: behind it the first is a low one, and else it is none
+unfoldable pub wellFormedAfter : Bool → List ℕ → Bool
+wellFormedAfter high [] = not high
+wellFormedAfter high (u ∷ us) = pick high (lowSurrogate u) (not (lowSurrogate u)) && wellFormedAfter (highSurrogate u) us
+
+-- document 02, P7: "well-formed UTF-16 (each high surrogate followed by a low one, no low one alone)"
+abbrev pub wellFormed : List ℕ → Bool
+wellFormed us = wellFormedAfter false us
+
+-- "the view stops before the first zero unit": the view of a text that has these units, from a position on; and "beside the view, whether
+-- the view is well-formed UTF-16". Every view is this one,
 abbrev pub viewOf : ℕ → List ℕ → View
-viewOf at units = record { part = record { start = at; len = 2 * beforeZero units } }
+viewOf at units = record { part = record { start = at; len = 2 * beforeZero units }; sound = wellFormed (shownOf units) }
 
 -- or the same of a slice in which the text's own begins at `by`
 abbrev pub viewMoved : ℕ → View → View
-viewMoved by v = record { part = partMoved by (v .part) }
+viewMoved by v = record { part = partMoved by (v .part); sound = v .sound }
 
 -- counted units: n units in one read, and their view
 abbrev pub countedAt : List ℕ → ℕ → ℕ → Answer View

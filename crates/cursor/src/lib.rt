@@ -10,7 +10,7 @@ ghost use Rattle.cursor.specs.Answer.{gives, pick};
 ghost use Rattle.cursor.specs.Answers.{u8Answer, u16Answer, u32Answer, u64Answer, movedAnswer, takenAnswer, textAnswer, countAnswer};
 ghost use Rattle.cursor.specs.Lent.{lentAnswer, lentLeft};
 ghost use Rattle.cursor.specs.Reads.{setTo, numberOf, startsWith, numberAt, takeAt, partOf, sidAt, arrayAt};
-ghost use Rattle.cursor.specs.Text.{unitsOf, countedAt, prefixedAt, zeroEndedAt};
+ghost use Rattle.cursor.specs.Text.{unitsOf, wellFormed, countedAt, prefixedAt, zeroEndedAt};
 
 // Why a call refuses: document 01's number and place. One struct for all crates.
 pub struct Refusal {
@@ -77,9 +77,10 @@ pub struct Part {
     pub len: usize,
 }
 
-// What of a text is shown: its bytes before its first zero unit.
+// What of a text is shown: its bytes before its first zero unit, and whether these are well-formed UTF-16.
 pub struct View {
     pub part: Part,
+    pub sound: bool,
 }
 
 pub enum ReadU8 {
@@ -216,6 +217,23 @@ pub fn unit_at(units: &[u8], n: usize) -> u16
     } else {
         0
     }
+}
+
+// Whether a run of units is well-formed UTF-16: each high surrogate followed by a low one, no low one alone. It goes over all units
+// without a branch, so that the compiler takes many at once, and leaves it out where nobody asks for the answer.
+pub fn well_formed(units: &[u8]) -> bool
+    ensures { λ r. ⌜ r ≡ wellFormed (unitsOf (now (units .entry))) ⌝ }
+{
+    let mut sound = true;
+    let mut high = false;
+    let mut n: usize = 0;
+    while n < units.len() / 2 {
+        let u = unit_at(units, n);
+        sound = raw::both(sound, raw::may_follow(high, raw::is_low(u)));
+        high = raw::is_high(u);
+        n += 1;
+    }
+    raw::both(sound, !high)
 }
 
 impl Part {

@@ -6,12 +6,15 @@ use crate::Refusal;
 use crate::Text;
 use crate::View;
 use crate::unit_at;
+use crate::well_formed;
 ghost use mathlib.Core.Path.{_≡_};
+ghost use mathlib.Core.Bool.{not, _&&_};
 ghost use Prim.Native.Nat.{_+_, _*_, _≤_};
 ghost use lib.ListN.{length};
+ghost use Rattle.cursor.specs.Answer.{pick};
 ghost use Rattle.cursor.specs.Answers.{textAnswer};
 ghost use Rattle.cursor.specs.Reads.{within, little, bytesOf};
-ghost use Rattle.cursor.specs.Text.{unitsOf, beforeZero, viewOf};
+ghost use Rattle.cursor.specs.Text.{unitsOf, beforeZero, highSurrogate, lowSurrogate, viewOf};
 ghost use Rattle.cursor.specs.Pieces.{tooFewBytes, unitAfter, endedAt};
 
 // Refusal 3, where the read starts.
@@ -80,6 +83,38 @@ pub(crate) fn join32(low: u32, high: u32) -> u64
     low as u64 + 4294967296 * (high as u64)
 }
 
+// Whether a unit is a high surrogate, and whether it is a low one.
+pub(crate) fn is_high(u: u16) -> bool
+    ensures { λ r. ⌜ r ≡ highSurrogate u ⌝ }
+{
+    if u < 0xD800 {
+        return false;
+    }
+    u <= 0xDBFF
+}
+
+pub(crate) fn is_low(u: u16) -> bool
+    ensures { λ r. ⌜ r ≡ lowSurrogate u ⌝ }
+{
+    if u < 0xDC00 {
+        return false;
+    }
+    u <= 0xDFFF
+}
+
+// Whether a unit that is a low surrogate or not may stand behind one that is a high surrogate or not.
+pub(crate) fn may_follow(high: bool, low: bool) -> bool
+    ensures { λ r. ⌜ r ≡ pick high low (not low) ⌝ }
+{
+    if high { low } else { !low }
+}
+
+pub(crate) fn both(a: bool, b: bool) -> bool
+    ensures { λ r. ⌜ r ≡ (a && b) ⌝ }
+{
+    if a { b } else { false }
+}
+
 // How many units of t stand before the first zero unit.
 pub(crate) fn before_zero(t: &[u8]) -> usize
     ensures { λ r. ⌜ r ≡ beforeZero (unitsOf (now (t .entry))) ⌝ }
@@ -98,12 +133,14 @@ pub(crate) fn before_zero(t: &[u8]) -> usize
 pub(crate) fn view(t: &[u8], at: usize) -> View
     ensures { λ r. ⌜ r ≡ viewOf at (unitsOf (now (t .entry))) ⌝ }
 {
-    let n = before_zero(t);
+    let len = 2 * before_zero(t);
+    let sound = well_formed(&t[..len]);
     View {
         part: Part {
             start: at,
-            len: 2 * n,
+            len: len,
         },
+        sound: sound,
     }
 }
 

@@ -3,6 +3,7 @@ use crate::Name;
 use crate::NameRead;
 use crate::name_hash;
 use crate::named;
+use crate::soundness_of;
 use cursor::Cursor;
 use cursor::ReadU16;
 use cursor::Refusal;
@@ -51,19 +52,23 @@ fn after_count(start: usize, hash: u16, n: u16, c: Cursor, s: &[u8]) -> NameRead
             place: at + 2 * there,
         });
     }
-    after_units(named(start, at, count), hash, s)
+    after_units(start, at, count, hash, s)
 }
 
-// The zero unit after units that are there.
-fn after_units(name: Name, hash: u16, s: &[u8]) -> NameRead
-    requires { ⌜ name .units + 2 * name .count ≤ length (now s) ⌝ }
-    ensures { λ r. ⌜ nameAnswer r ≡ afterUnits (now (s .entry)) name hash (unitsOf (bytesOf (now (s .entry)) (name .units) (2 * name .count))) (name .units + 2 * name .count) ⌝ }
+// The zero unit after units that are there. These are judged here and not before: with two more calls before this one the compiler kept more
+// than it had registers for in the loop over the tokens.
+fn after_units(start: usize, at: usize, count: usize, hash: u16, s: &[u8]) -> NameRead
+    requires { ⌜ at + 2 * count ≤ length (now s) ⌝ }
+    ensures { λ r. ⌜ nameAnswer r ≡ afterUnits (now (s .entry)) start at count hash (unitsOf (bytesOf (now (s .entry)) at (2 * count))) (at + 2 * count) ⌝ }
 {
-    let start = name.units;
-    let end = start + 2 * name.count;
+    let end = at + 2 * count;
     let after = Cursor { at: end };
     match after.u16(s) {
-        ReadU16::Value(last, next) => judge(name, hash, last, name_hash(&s[start..end]), next),
+        ReadU16::Value(last, next) => {
+            let units = &s[at..end];
+            let name = named(start, at, count, soundness_of(units));
+            judge(name, hash, last, name_hash(units), next)
+        }
         ReadU16::Refused(r) => NameRead::Refused(r),
     }
 }

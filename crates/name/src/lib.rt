@@ -10,14 +10,22 @@ use std::num::wrapping_sub_u32;
 ghost use mathlib.Core.Path.{_≡_};
 ghost use Rattle.cursor.specs.Text.{unitsOf};
 ghost use Rattle.name.specs.Hash.{hashOf, mixed};
-ghost use Rattle.name.specs.Name.{nameAt, nameAnswer, nameOf};
+ghost use Rattle.name.specs.Name.{nameAt, nameAnswer, nameOf, soundnessOf};
 
-// A name: its offset (of an inline name, where it starts), where its units stand and how many they are.
+// Whether a name's units are well-formed UTF-16. An offset name's are not judged, which is no case of sound.
+pub enum Soundness {
+    Sound,
+    Unsound,
+    NotJudged,
+}
+
+// A name: its offset (of an inline name, where it starts), where its units stand, how many they are, and whether they are sound.
 // Of an offset name that does not stand in place only the offset was read: no units, at 0.
 pub struct Name {
     pub offset: usize,
     pub units: usize,
     pub count: usize,
+    pub soundness: Soundness,
 }
 
 pub enum NameRead {
@@ -26,13 +34,25 @@ pub enum NameRead {
 }
 
 // Every name is made here.
-pub(crate) fn named(offset: usize, units: usize, count: usize) -> Name
-    ensures { λ r. ⌜ r ≡ nameOf offset units count ⌝ }
+pub(crate) fn named(offset: usize, units: usize, count: usize, soundness: Soundness) -> Name
+    ensures { λ r. ⌜ r ≡ nameOf offset units count soundness ⌝ }
 {
     Name {
         offset: offset,
         units: units,
         count: count,
+        soundness: soundness,
+    }
+}
+
+// What is said of an inline name's units, all of them.
+pub(crate) fn soundness_of(units: &[u8]) -> Soundness
+    ensures { λ r. ⌜ r ≡ soundnessOf (unitsOf (now (units .entry))) ⌝ }
+{
+    if cursor::well_formed(units) {
+        Soundness::Sound
+    } else {
+        Soundness::Unsound
     }
 }
 

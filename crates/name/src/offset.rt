@@ -1,5 +1,6 @@
 // Offset names: a u32 that says where the name stands. A name that stands right behind it is skipped.
 use crate::NameRead;
+use crate::Soundness;
 use crate::named;
 use cursor::Cursor;
 use cursor::Moved;
@@ -24,7 +25,7 @@ fn after_offset(offset: u32, c: Cursor, s: &[u8]) -> NameRead
     if c.at == offset as usize {
         name_in_place(offset, s)
     } else {
-        NameRead::Read(named(offset as usize, 0, 0), c)
+        NameRead::Read(named(offset as usize, 0, 0, Soundness::NotJudged), c)
     }
 }
 
@@ -61,7 +62,7 @@ fn after_link(at: u32, c: Cursor, s: &[u8]) -> NameRead
 fn skip(at: u32, n: u16, c: Cursor, s: &[u8]) -> NameRead
     ensures { λ r. ⌜ nameAnswer r ≡ skipped (now (s .entry)) at n (c .at) ⌝ }
 {
-    let name = named(at as usize, c.at, n as usize);
+    let name = named(at as usize, c.at, n as usize, Soundness::NotJudged);
     match c.set_pos(s, at as usize + 10 + 2 * (n as usize)) {
         Moved::To(next) => NameRead::Read(name, next),
         Moved::Refused(r) => NameRead::Refused(r),

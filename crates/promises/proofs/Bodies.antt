@@ -73,7 +73,7 @@ module _ (l : List Token) (lent left : List ℕ) (o : Result ℕ) (room : length
   by-verdict v (a-body words r) e f = of-body words r e f
   by-verdict v (verdict.refused k p y) e f = of-refusal k p y e f
 
-on-tokens : (l : List Token) (v : Result (List ℕ)) → Judged (ok l) v → Verdict (marksOf l) v
+pub on-tokens : (l : List Token) (v : Result (List ℕ)) → Judged (ok l) v → Verdict (marksOf l) v
 on-tokens l v (read m u d) = d
 
 pub decided : (lent left : List ℕ) (w : Walked) (o : Result ℕ) → Answered lent left w o → (l : List Token) → w ≡ ok l → length l ≤ length lent → Decided l lent left o

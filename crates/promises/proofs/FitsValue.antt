@@ -90,7 +90,7 @@ module _ (s : List ℕ) (bytes : Bytes s) (short : length s ≤ 65536) where
   inline-name at h =
       number-then s short bytes at 2 (P.afterHash s at) h (λ stored n b k.
       number-then s short bytes n 2 (P.afterCount s at stored) k (λ count m c l.
-      on (length s) (N.unitsAt s m count) (P.afterUnits s (N.nameOf at m count) stored) (units count m l) (λ us e i.
+      on (length s) (N.unitsAt s m count) (P.afterUnits s at m count stored) (units count m l) (λ us e i.
       number-then s short bytes e 2 _ i (λ last z d j.
       tested (Fits (length s)) (eqb last 0) _ _ _
       (λ p. tested (Fits (length s)) (eqb stored (hashOf us)) _ _ _ (λ q. j) (λ q. (omega arith, omega arith)))

@@ -35,3 +35,4 @@ pub mod Numbered
 pub mod Told
 pub mod Marks
 pub mod Words
+pub mod Sound

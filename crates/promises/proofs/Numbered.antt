@@ -12,7 +12,7 @@ use Rattle.cursor.specs.Refusals.{nameNotEnded, nameHash}
 use Rattle.cursor.specs.Text.{prefixedAt}
 use Rattle.cursor.proofs.Choice.{either}
 use Rattle.name.specs.Hash.{hashOf}
-use Rattle.name.specs.Name.{nameOf, offsetNameAt, unitsAt, inlineNameAt, nameAt}
+use Rattle.name.specs.Name.{offsetNameAt, unitsAt, inlineNameAt, nameAt}
 use Rattle.name.specs.Pieces as P
 use Rattle.name.specs.declared.Name.{Name}
 use Rattle.value.specs.Value.{unsizedAt}
@@ -58,7 +58,7 @@ module _ (s : List ℕ) (bytes : Bytes s) (short : length s ≤ 65536) where
       either (λ a. Named (a then P.afterHash s at)) (within s at 2) _ _
       (λ w. let h = leb-true (at + 2) (length s) w in
       of-later Q (numberAt s (at + 2) 2) (P.afterCount s at (numberOf s at 2)) (λ n start.
-      of-later Q (unitsAt s start n) (P.afterUnits s (nameOf at start n) (numberOf s at 2)) (λ units end.
+      of-later Q (unitsAt s start n) (P.afterUnits s at start n (numberOf s at 2)) (λ units end.
       of-later Q (numberAt s end 2) _ (λ last next.
       of-later Q (must (eqb last 0) nameNotEnded at) _ (λ _ _.
       of-later Q (must (eqb (numberOf s at 2) (hashOf units)) nameHash at) _ (λ _ _. omega (arith, h)))))))

@@ -57,6 +57,8 @@ use Rattle.cursor.proofs.u64_at.Kinds as u64_atK
 use Rattle.cursor.proofs.u64_at.Reads as u64_atR
 use Rattle.cursor.proofs.begins.Kinds as beginsK
 use Rattle.cursor.proofs.begins.Reads as beginsR
+use Rattle.cursor.proofs.well_formed.Kinds as well_formedK
+use Rattle.cursor.proofs.well_formed.Reads as well_formedR
 use Rattle.cursor.proofs.bit.Kinds as bitK
 use Rattle.cursor.proofs.bit.Reads as bitR
 use Rattle.cursor.proofs.lay.Kinds as layK
@@ -197,6 +199,9 @@ begins κs a x y s t p q = p ∙ sym q
 
 pub unit-at : Single 1 unit_atK.ps unit_atK.r unit_atR.Post
 unit-at κs a x y s t p q = p ∙ sym q
+
+pub well-formed : Single 1 well_formedK.ps well_formedK.r well_formedR.Post
+well-formed κs a x y s t p q = p ∙ sym q
 
 -- of the part that is handed back, its bytes
 pub of : (κs : Lfts 1) (a : Dens κs ofK.ps) (x y : resT ofK.r κs .Denot) (s t : AtExit (endedOf 1 ofK.ps ofK.r) κs)

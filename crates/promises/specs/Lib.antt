@@ -8,3 +8,4 @@ pub mod Exactly
 pub mod Words
 pub mod Told
 pub mod Kept
+pub mod Sound

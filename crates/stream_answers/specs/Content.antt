@@ -2,8 +2,9 @@
 use mathlib.Core.List.{List, [], _++_}
 use Prim.Native.Nat.{ℕ, _+_, _%_, _^_}
 use lib.IntN.{ℤ, pos, negsuc}
-use Rattle.cursor.specs.Answer.{Maybe, just, nothing}
+use Rattle.cursor.specs.Answer.{pick, Maybe, just, nothing}
 use Rattle.cursor.specs.Reads.{partOf}
+use Rattle.cursor.specs.declared.View.{View}
 use Rattle.value.specs.Scalar.{decodedOf}
 use Rattle.value.specs.declared.Content.{Content}
 use Rattle.value.specs.declared.Content.the-variants as C
@@ -31,10 +32,14 @@ abbrev pub numberText : Maybe Decoded → List ℕ
 numberText (just d) = scalarText (d .bits) (d .value)
 numberText nothing = []
 
--- '`n` for type 00; `t` and the view's bytes for 01'; numbers; '`b` and the bytes for all else (`t-` and `b-` where there are none)'
+-- '`t` and the view's bytes where it is sound, `x` and the view's bytes where not'
+abbrev pub textText : List ℕ → View → List ℕ
+textText s v = pick (v .sound) (ascii "t") (ascii "x") ++ hexOf (partOf s (v .part))
+
+-- '`n` for type 00'; texts for 01; numbers; '`b` and the bytes for all else'; a dash where there are no bytes
 abbrev pub heldText : List ℕ → ℕ → Content → List ℕ
 heldText s code C.Nothing = ascii "n"
-heldText s code (C.Text v) = ascii "t" ++ hexOf (partOf s (v .part))
+heldText s code (C.Text v) = textText s v
 heldText s code (C.Number p) = numberText (decodedOf code (partOf s p))
 heldText s code (C.Bytes p) = ascii "b" ++ hexOf (partOf s p)
 

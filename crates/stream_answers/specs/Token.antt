@@ -6,6 +6,10 @@ use Rattle.cursor.specs.Answer.{pick, Result, gives, refuses, Maybe, just, noth
 use Rattle.cursor.specs.Reads.{partOf}
 use Rattle.tokens.specs.Token.{openKind, charRefKind, substitutionKind}
 use Rattle.tokens.specs.Instance.{valuesOf, ValueNext, nextOf}
+use Rattle.cursor.specs.declared.View.{View}
+use Rattle.name.specs.declared.Name.{Name}
+use Rattle.name.specs.declared.Soundness.{Soundness}
+use Rattle.name.specs.declared.Soundness.the-variants.{Sound, Unsound, NotJudged}
 use Rattle.tokens.specs.declared.Held.{Held}
 use Rattle.tokens.specs.declared.Held.the-variants as H
 use Rattle.tokens.specs.declared.Instance.{Instance}
@@ -41,16 +45,29 @@ numberedText t =
 abbrev pub dependencyText : Token → List ℕ
 dependencyText t = pick (t .flag) (spacedNumber (t .number)) (ascii " -")
 
--- '2 open: name-offset, dependency or `-`, announced (1 for the byte 41, 0 for 01)'; the others have the name alone
+-- '2 open: name-offset, dependency or `-`, announced (1 for the byte 41, 0 for 01)'; the others have no more of their own
 abbrev pub openedText : Token → List ℕ
 openedText t = pick (eqb (t .kind) openKind) (dependencyText t ++ spacedNumber (flagBit (t .announced))) []
 
--- by what the token holds: '7 attribute, 8 entity ref, 9 PI target: name-offset', '10 PI data, 11 CDATA: the view's bytes',
--- '6 value: a field type:-:start:next:content', the next place being where the token ends
+-- 'one more field at the end, 1 or 0 for an inline name, `-` for an offset name'
+abbrev pub soundnessText : Soundness → List ℕ
+soundnessText Sound = ascii " 1"
+soundnessText Unsound = ascii " 0"
+soundnessText NotJudged = ascii " -"
+
+abbrev pub namedText : Token → Name → List ℕ
+namedText t n = spacedNumber (t .name) ++ openedText t ++ soundnessText (n .soundness)
+
+-- 'the view's bytes, then 1 or 0'
+abbrev pub viewText : List ℕ → View → List ℕ
+viewText s v = bytesField (partOf s (v .part)) ++ spacedNumber (flagBit (v .sound))
+
+-- by what the token holds: of 2, 7, 8 and 9 the name; of 10 and 11 the view; '6 value: a field type:-:start:next:content', the next place
+-- being where the token ends
 abbrev pub byHeld : List ℕ → Token → Held → List ℕ
 byHeld s t H.Nothing = numberedText t
-byHeld s t (H.Name n) = spacedNumber (t .name) ++ openedText t
-byHeld s t (H.Text v) = bytesField (partOf s (v .part))
+byHeld s t (H.Name n) = namedText t n
+byHeld s t (H.Text v) = viewText s v
 byHeld s t (H.Value v) = sizelessText s v (t .place + t .len)
 byHeld s t (H.Instance i) = instanceText s i
 

@@ -1,4 +1,5 @@
 // A value's content: a letter, and the number or the bytes.
+use cursor::View;
 use value::Content;
 use value::Decoding;
 use value::Scalar;
@@ -7,7 +8,7 @@ ghost use mathlib.Core.List.{_∷_, [], _++_};
 ghost use Prim.Native.Nat.{_+_, _%_, _^_, _<_};
 ghost use Rattle.value.specs.Scalar.{decodingAnswer};
 ghost use Rattle.print.specs.Text.{ascii, Puts, hexOf, hexHalf, hexWord, decimalOf};
-ghost use Rattle.stream_answers.specs.Content.{contentText, numberText, scalarText, signedText};
+ghost use Rattle.stream_answers.specs.Content.{contentText, textText, numberText, scalarText, signedText};
 
 pub(crate) fn content(out: &mut [u8], at: usize, v: Value, s: &[u8]) -> usize
     ensures { λ r. ⌜ Puts (contentText (now (s .entry)) v) (now (out .entry)) at (now (out .exit)) r ⌝ }
@@ -15,13 +16,21 @@ pub(crate) fn content(out: &mut [u8], at: usize, v: Value, s: &[u8]) -> usize
     let c = v.content;
     match c {
         Content::Nothing => print::byte(out, at, b'n'),
-        Content::Text(t) => {
-            let p = t.part;
-            bytes(out, at, b't', p.of(s))
-        }
+        Content::Text(t) => text(out, at, t, s),
         Content::Number(p) => number(out, at, value::decode(v.code, p.of(s))),
         Content::Bytes(p) => bytes(out, at, b'b', p.of(s)),
     }
+}
+
+// The letter says whether a text is sound.
+fn text(out: &mut [u8], at: usize, v: View, s: &[u8]) -> usize
+    ensures { λ r. ⌜ Puts (textText (now (s .entry)) v) (now (out .entry)) at (now (out .exit)) r ⌝ }
+{
+    let p = v.part;
+    if v.sound {
+        return bytes(out, at, b't', p.of(s));
+    }
+    bytes(out, at, b'x', p.of(s))
 }
 
 fn bytes(out: &mut [u8], at: usize, letter: u8, part: &[u8]) -> usize

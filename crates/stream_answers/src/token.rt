@@ -1,5 +1,8 @@
 // The tokens of a walk, one a line, and the walk's last line.
 use crate::field;
+use cursor::View;
+use name::Name;
+use name::Soundness;
 use tokens::Flags;
 use tokens::Held;
 use tokens::Stepped;
@@ -8,8 +11,8 @@ ghost use mathlib.Core.List.{_++_};
 ghost use Prim.Native.Nat.{_+_, _<_, _^_};
 ghost use Rattle.tokens.specs.Walk.{walkAt, countedOf};
 ghost use Rattle.sheet.specs.Sheet.{readAt};
-ghost use Rattle.print.specs.Text.{Puts, spacedNumber};
-ghost use Rattle.stream_answers.specs.Token.{tokenText, heldText, numberedText, dependencyText, openedText};
+ghost use Rattle.print.specs.Text.{Puts};
+ghost use Rattle.stream_answers.specs.Token.{tokenText, heldText, numberedText, dependencyText, openedText, soundnessText, namedText, viewText};
 ghost use Rattle.stream_answers.specs.Walk.{tokensText, lastText};
 
 // The walk from a position on.
@@ -58,11 +61,8 @@ fn held(out: &mut [u8], at: usize, t: Token, s: &[u8]) -> usize
     let h = t.held;
     match h {
         Held::Nothing => numbered(out, at, t),
-        Held::Name(_) => named(out, at, t),
-        Held::Text(v) => {
-            let p = v.part;
-            field::bytes(out, at, p.of(s))
-        }
+        Held::Name(n) => named(out, at, t, n),
+        Held::Text(v) => text(out, at, v, s),
         Held::Value(v) => field::sizeless(out, at, v, t.place + t.len, s),
         Held::Instance(i) => field::instance(out, at, i, s),
     }
@@ -83,11 +83,33 @@ fn numbered(out: &mut [u8], at: usize, t: Token) -> usize
     at
 }
 
-fn named(out: &mut [u8], at: usize, t: Token) -> usize
-    ensures { λ r. ⌜ Puts (spacedNumber (t .name) ++ openedText t) (now (out .entry)) at (now (out .exit)) r ⌝ }
+fn named(out: &mut [u8], at: usize, t: Token, n: Name) -> usize
+    ensures { λ r. ⌜ Puts (namedText t n) (now (out .entry)) at (now (out .exit)) r ⌝ }
 {
-    let after = print::number(out, at, t.name as u64);
-    opened(out, after, t)
+    let a = print::number(out, at, t.name as u64);
+    let b = opened(out, a, t);
+    let j = n.soundness;
+    judged(out, b, j)
+}
+
+// An offset name is neither: it has a dash.
+fn judged(out: &mut [u8], at: usize, j: Soundness) -> usize
+    ensures { λ r. ⌜ Puts (soundnessText j) (now (out .entry)) at (now (out .exit)) r ⌝ }
+{
+    match j {
+        Soundness::Sound => print::text(out, at, b" 1"),
+        Soundness::Unsound => print::text(out, at, b" 0"),
+        Soundness::NotJudged => print::text(out, at, b" -"),
+    }
+}
+
+// A view's bytes, and whether it is sound.
+fn text(out: &mut [u8], at: usize, v: View, s: &[u8]) -> usize
+    ensures { λ r. ⌜ Puts (viewText (now (s .entry)) v) (now (out .entry)) at (now (out .exit)) r ⌝ }
+{
+    let p = v.part;
+    let after = field::bytes(out, at, p.of(s));
+    print::number(out, after, v.sound as u64)
 }
 
 // Of an open token its dependency, and whether it announces attributes.

@@ -15,6 +15,7 @@ use Rattle.name.specs.Hash.{hashOf}
 use Rattle.name.specs.Name as N
 use Rattle.name.specs.Pieces as P
 use Rattle.name.specs.declared.Name.{Name}
+use Rattle.name.specs.declared.Soundness.the-variants.{NotJudged}
 use Rattle.value.specs.Kinds.{knownCode}
 use Rattle.value.specs.Value.{unsizedAt}
 use Rattle.value.specs.declared.Value.{Value}
@@ -60,7 +61,7 @@ module _ (s : List ℕ) where
       always at (length s) (numberAt s at 4) (λ _ second. P.afterNext s at second) (λ _ second.
       always at (length s) (numberAt s second 2) (λ _ third. P.afterLink s at third) (λ _ third.
       always at (length s) (numberAt s third 2) (P.skipped s at) (λ n units.
-      either (λ a. Between {A = Name} at (length s) (a then λ _ next. given (N.nameOf at units n) next)) (leb (at + 10 + 2 * n) (length s)) _ _
+      either (λ a. Between {A = Name} at (length s) (a then λ _ next. given (N.nameOf at units n NotJudged) next)) (leb (at + 10 + 2 * n) (length s)) _ _
       (λ w. (omega arith, leb-true (at + 10 + 2 * n) (length s) w))
       (λ w. tt {0}))))
 
@@ -79,7 +80,7 @@ module _ (s : List ℕ) where
   inline-name at =
       then-number at 2 (P.afterHash s at) (λ stored n h.
       then-number n 2 (P.afterCount s at stored) (λ count m k.
-      on m (length s) (N.unitsAt s m count) (P.afterUnits s (N.nameOf at m count) stored) (units count m k) (λ us e l.
+      on m (length s) (N.unitsAt s m count) (P.afterUnits s at m count stored) (units count m k) (λ us e l.
       then-number e 2 _ (λ last z i.
       tested (Between z (length s)) (eqb last 0) _ _ _
       (λ p. tested (Between z (length s)) (eqb stored (hashOf us)) _ _ _ (λ q. (omega arith, i)) (λ q. tt {0}))

@@ -1,9 +1,10 @@
 -- What each public call answers on a small input holds: computed on the definitions that the contracts cite. Assumes nothing.
 use mathlib.Core.Path.{refl}
 use Rattle.cursor.specs.Reads.{little, startsWith}
-use Rattle.cursor.specs.Text.{unitsOf, beforeZero}
+use Rattle.cursor.specs.Text.{unitsOf, beforeZero, wellFormedAfter}
 use Rattle.crc32.specs.Crc.{feedback, shiftBit, shiftBits, crcOver}
 use Rattle.name.specs.Hash.{hashFrom}
+use Rattle.name.specs.Name.{unitsAt}
 use Rattle.value.specs.Kinds.{among, knownCode, widthOf}
 use Rattle.value.specs.Scalar.{bitsOf, realOf, unsignedOf, decodedOf}
 use Rattle.value.specs.Value.{sizedAt, unsizedAt}
@@ -21,7 +22,7 @@ use Rattle.print.specs.Text.{put, each, decimalIn}
 use Rattle.vectors.specs.Calls.{Calls}
 
 pub calls : Calls
-unfolding feedback shiftBit shiftBits crcOver fileAt little startsWith unitsOf beforeZero hashFrom among knownCode widthOf bitsOf realOf unsignedOf decodedOf sizedAt unsizedAt fieldsAt offsetsAt payloadOf tableAt valuesAt endsOf gistAt turnAt stepFrom walkFrom walkOf put each decimalIn readFrom valuesFrom answerText
+unfolding feedback shiftBit shiftBits crcOver fileAt little startsWith unitsOf beforeZero wellFormedAfter hashFrom unitsAt among knownCode widthOf bitsOf realOf unsignedOf decodedOf sizedAt unsizedAt fieldsAt offsetsAt payloadOf tableAt valuesAt endsOf gistAt turnAt stepFrom walkFrom walkOf put each decimalIn readFrom valuesFrom answerText
 calls =
     record {
       read = refl;
@@ -35,6 +36,11 @@ calls =
       sid = refl;
       all-bytes = refl;
       unit = refl;
+      a-pair = refl;
+      high-at-end = refl;
+      low-alone = refl;
+      unsound-name = refl;
+      unjudged-name = refl;
       no-room = refl;
       laid-words = refl;
       hash = refl;
@@ -64,6 +70,8 @@ calls =
       value-line = refl;
       plain-line = refl;
       announced-line = refl;
+      unsound-line = refl;
+      sound-line = refl;
       owners-line = refl;
       sheet-call = refl;
       owners-call = refl;

@@ -8,10 +8,12 @@ use lib.ListN.{getD, replicate}
 use Rattle.cursor.specs.Answer.{given, refused, gives, refuses, just, nothing}
 use Rattle.cursor.specs.Reads.{numberAt, numberOf, setTo, takeAt, partOf, sidAt, startsWith}
 use Rattle.cursor.specs.Lent.{lentAnswer, lentLeft}
-use Rattle.cursor.specs.Text.{unitsOf, countedAt, prefixedAt, zeroEndedAt}
+use Rattle.cursor.specs.Text.{unitsOf, wellFormed, countedAt, prefixedAt, zeroEndedAt}
 use Rattle.cursor.specs.declared.Part.{Part}
 use Rattle.cursor.specs.declared.View.{View}
 use Rattle.name.specs.Hash.{hashOf}
+use Rattle.name.specs.Name.{nameOf, nameAt}
+use Rattle.name.specs.declared.Soundness.the-variants.{Unsound, NotJudged}
 use Rattle.value.specs.Kinds.{knownCode, widthOf, elementWidthOf}
 use Rattle.value.specs.Value.{unsizedAt}
 use Rattle.record.specs.Chunk.{fieldsAt, stringsOf, checksumAt, eventsRight, headerWords}
@@ -34,8 +36,9 @@ use Rattle.promises.specs.Samples.{emptyElement, announcedElement, anInstance, 
 abbrev part : ℕ → ℕ → Part
 part start len = record { start = start; len = len }
 
+-- a sound one
 abbrev view : ℕ → ℕ → View
-view start len = record { part = part start len }
+view start len = record { part = part start len; sound = true }
 
 abbrev three : List ℕ
 three = 1 ∷ 2 ∷ 3 ∷ []
@@ -90,6 +93,13 @@ pub record Calls : Type 0 where
   pub all-bytes : startsWith (0x2A ∷ 0x2B ∷ []) (0x2A ∷ 0x2A ∷ []) ≡ false
   -- `unit_at`: an odd byte at the end is no unit
   pub unit : getD (unitsOf three) 1 0 ≡ 0
+  -- `well_formed`: a pair, a high surrogate at the end, a low one alone
+  pub a-pair : wellFormed (0xD800 ∷ 0xDFFF ∷ []) ≡ true
+  pub high-at-end : wellFormed (0x41 ∷ 0xDBFF ∷ []) ≡ false
+  pub low-alone : wellFormed (0xDC00 ∷ []) ≡ false
+  -- `read_name_ref`: an inline name is judged on all its units, and not on those before a zero; an offset name is not judged
+  pub unsound-name : nameAt (0x00 ∷ 0xD8 ∷ 2 ∷ 0 ∷ 0 ∷ 0 ∷ 0x00 ∷ 0xD8 ∷ 0 ∷ 0 ∷ []) 0 true ≡ given (nameOf 0 4 2 Unsound) 10
+  pub unjudged-name : nameAt (0 ∷ 2 ∷ 0 ∷ 0 ∷ []) 0 false ≡ given (nameOf 512 0 0 NotJudged) 4
   -- `lay`: the words needed; words past those that are laid stay
   pub no-room : lentAnswer (gives three) (9 ∷ 9 ∷ []) ≡ refuses 16 3
   pub laid-words : lentLeft (gives three) (9 ∷ 9 ∷ 9 ∷ 9 ∷ []) ≡ 1 ∷ 2 ∷ 3 ∷ 9 ∷ []
@@ -139,8 +149,11 @@ pub record Calls : Type 0 where
   -- `stream_answers::walk`
   pub value-line : walkText (anInstance 2 0x08 (0x2A ∷ 0 ∷ 0 ∷ 0 ∷ [])) 0 22 plainly ≡ ascii "0 22 1 7 512 - 1 08:2:18:22:u42\nok 1\n"
   -- an open token's line: its name's offset, no dependency, attributes announced or not
-  pub plain-line : walkText emptyElement 0 11 plainly ≡ ascii "0 9 2 512 - 0\n9 1 4\nok 2\n"
-  pub announced-line : walkText announcedElement 0 15 plainly ≡ ascii "0 13 2 512 - 1\n13 1 4\nok 2\n"
+  pub plain-line : walkText emptyElement 0 11 plainly ≡ ascii "0 9 2 512 - 0 -\n9 1 4\nok 2\n"
+  pub announced-line : walkText announcedElement 0 15 plainly ≡ ascii "0 13 2 512 - 1 -\n13 1 4\nok 2\n"
+  -- a text's line ends with whether it is sound, and so does an inline name's
+  pub unsound-line : walkText (0x07 ∷ 1 ∷ 0 ∷ 0x00 ∷ 0xD8 ∷ []) 0 5 plainly ≡ ascii "0 5 11 00d8 0\nok 1\n"
+  pub sound-line : walkText (0x06 ∷ 0 ∷ 0 ∷ 0 ∷ 0 ∷ 0 ∷ 0 ∷ []) 0 7 (record { dependencies = false; inline = true }) ≡ ascii "0 7 7 1 1\nok 1\n"
   -- `stream_answers::owners`: as many words as tokens
   pub owners-line : ownersText (gives 2) (0 ∷ 1 ∷ 9 ∷ []) ≡ ascii "owners 0 1\n"
   -- `stream_answers::sheet_call`, `owners_call`: the answer's word, and all words that were lent

@@ -17,13 +17,8 @@ returns c =
 
 returns-2 : tie.Need-returns-2
 returns-2 c =
-    let p = c .before .before .before .before .before .before .before in
-    let q = p .before .before .before .before in
-    let a = q .args in
-    put-as
-    (ap (λ (l : List ℕ). ascii "t" ++ hexOf l) (c .before .before .before .of .ensures)
-    ∙ ap (heldText (a .s .now) (a .v .code)) (sym (p .c .given .1)))
-    (c .before .before .bytes .ensures)
+    let a = c .before .before .before .before .before .before .before .before .before .args in
+    put-as (ap (heldText (a .s .now) (a .v .code)) (sym (c .before .before .before .before .before .c .given .1))) (c .before .before .text .ensures)
 
 returns-3 : tie.Need-returns-3
 returns-3 c =
@@ -32,7 +27,7 @@ returns-3 c =
     let r = q .before .before .before .before in
     let a = r .args in
     put-as
-    (ap numberText (c .before .before .before .decode .ensures ∙ ap (decodedOf (a .v .code)) (p .of2 .ensures))
+    (ap numberText (c .before .before .before .decode .ensures ∙ ap (decodedOf (a .v .code)) (p .of .ensures))
     ∙ ap (heldText (a .s .now) (a .v .code)) (sym (q .c2 .given .1)))
     (c .before .before .number .ensures)
 
@@ -42,9 +37,9 @@ returns-4 c =
     let q = p .before .before .before .before in
     let a = q .args in
     put-as
-    (ap (λ (l : List ℕ). ascii "b" ++ hexOf l) (c .before .before .before .of3 .ensures)
+    (ap (λ (l : List ℕ). ascii "b" ++ hexOf l) (c .before .before .before .of2 .ensures)
     ∙ ap (heldText (a .s .now) (a .v .code)) (sym (p .c3 .given .1)))
-    (c .before .before .bytes2 .ensures)
+    (c .before .before .bytes .ensures)
 
 pub content-spec : {M : Type 1} → statement M
 content-spec =
@@ -53,7 +48,6 @@ content-spec =
     (λ c. search needs)
     (λ c κs. search needs)
     (λ c. search needs)
-    (λ c κs. search needs)
     (λ c κs. search needs)
     (λ c. search needs)
     (λ c κs. search needs)
