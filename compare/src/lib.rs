@@ -56,4 +56,5 @@ include!(concat!(env!("OUT_DIR"), "/printed.rs"));
 pub mod cases;
 pub mod document;
 pub mod oracle;
+pub mod pairs;
 pub mod timed;

@@ -1,4 +1,4 @@
-//! Cases on a chunk: its header, reads at many places, whole walks, and single steps from any state.
+//! Cases on a chunk: its header, reads at many places, whole walks, and single steps from any state; and on a pair of chunks.
 
 use super::Case;
 use super::chunks::{self, Chunk, SIZE};
@@ -29,6 +29,16 @@ pub fn of_one_chunk(random: &mut Random) -> Vec<Case> {
         cases.push(case(b'P', random.byte(), 0, &state, &chunk.bytes));
     }
     cases
+}
+
+/// A pair of chunks, walked with recovery, and then without: four cases.
+pub fn of_one_pair(random: &mut Random) -> Vec<Case> {
+    let pair = chunks::make_pair(random);
+    let walks = [1, 0].map(|recovery| {
+        let walk = |chunk: &Chunk| case(b'W', recovery, 0, &[], &chunk.bytes);
+        [walk(&pair[0]), walk(&pair[1])]
+    });
+    walks.into_iter().flatten().collect()
 }
 
 /// A case whose data is `front` and then the chunk.

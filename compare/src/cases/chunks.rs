@@ -2,6 +2,7 @@
 
 use super::random::Random;
 use crate::Hasher;
+use std::ops::Range;
 
 pub const SIZE: usize = 65536;
 const FIRST: usize = 512;
@@ -12,6 +13,7 @@ const HEAD: usize = 24;
 const LAST_FILETIME: u64 = 2_650_466_808_009_999_999;
 
 /// A chunk, and where something stands in it that is worth asking about.
+#[derive(Clone)]
 pub struct Chunk {
     pub bytes: Vec<u8>,
     places: Vec<usize>,
@@ -42,6 +44,41 @@ pub fn make(random: &mut Random) -> Chunk {
         chunk.bytes.resize(length, 0);
     }
     chunk
+}
+
+/// Two chunks with the same header that cannot be read at the same record, each for its own reason, and are equal from a later record
+/// on. What stands before that one may differ, and other damages are the same in both.
+pub fn make_pair(random: &mut Random) -> [Chunk; 2] {
+    let (mut one, live) = loop {
+        let chunk = Chunk::sound(random);
+        let live = chunk.live();
+        if live.len() > 1 {
+            break (chunk, live);
+        }
+    };
+    for _ in 0..random.one_of(&[0, 0, 0, 1, 2]) {
+        one.damage(random);
+    }
+    let first = random.below((live.len() - 1).min(40));
+    let last = (first + random.one_of(&[1, 1, 1, 2, 3])).min(live.len() - 1);
+    let range = live[first]..live[last];
+    let across = one.across(random, &range);
+    let mut other = one.clone();
+    for chunk in [&mut one, &mut other] {
+        if first > 0 && random.once_in(3) {
+            let before = random.below(first);
+            chunk.break_record(random, live[before]..live[before + 1]);
+        }
+        chunk.break_record(random, range.clone());
+        // The head of a record whose end lies behind the range.
+        if let Some((from, size)) = across
+            && random.once_in(2)
+        {
+            let id = chunk.some_id(random);
+            chunk.head_record(random, from, size, id);
+        }
+    }
+    [one, other]
 }
 
 /// A record's size: most are small, so that a chunk holds many.
@@ -167,11 +204,77 @@ impl Chunk {
 
     /// The numbers of a record, with what stands between them left as it is.
     fn frame_record(&mut self, random: &mut Random, at: usize, size: usize, id: u64) {
+        self.head_record(random, at, size, id);
+        self.put32(at + size - 4, size as u32);
+    }
+
+    /// Those at its start alone.
+    fn head_record(&mut self, random: &mut Random, at: usize, size: usize, id: u64) {
         self.put(at, &MAGIC);
         self.put32(at + 4, size as u32);
         self.put64(at + 8, id);
         self.put64(at + 16, filetime(random));
-        self.put32(at + size - 4, size as u32);
+    }
+
+    /// Where the records begin that lie below the free space offset.
+    fn live(&self) -> Vec<usize> {
+        let word = [48, 49, 50, 51].map(|at| self.bytes[at]);
+        let free = u32::from_le_bytes(word) as usize;
+        let below = |at: &usize| *at < free;
+        self.starts.iter().copied().filter(below).collect()
+    }
+
+    /// Makes the record at the range's start unreadable, and what stands behind it in the range anything.
+    fn break_record(&mut self, random: &mut Random, range: Range<usize>) {
+        let (at, end) = (range.start, range.end);
+        match random.below(6) {
+            0 => {}
+            1 => self.noise(random, at, end),
+            2 => self.bytes[range].fill(0),
+            // Records inside it, most of another time.
+            _ => {
+                for _ in 0..random.between(1, 3) {
+                    let from = at + random.below(end - at);
+                    let size = FRAME + random.below(40);
+                    let old = self.first_id.wrapping_sub(1 + random.below(9) as u64);
+                    let id = if random.once_in(6) {
+                        self.some_id(random)
+                    } else {
+                        old
+                    };
+                    if from + size <= end {
+                        self.frame_record(random, from, size, id);
+                    }
+                }
+            }
+        }
+        let reason = random.below(5);
+        if reason < 3 {
+            self.head_record(random, at, end - at, self.first_id);
+        }
+        match reason {
+            0 => self.put64(
+                at + 16,
+                random.one_of(&[LAST_FILETIME + 1, 1 << 63, u64::MAX]),
+            ),
+            1 => self.put32(at + 4, random.one_of(&[0, 1, 24, 27])),
+            2 => self.put32(at + 4, (SIZE - at + random.between(1, 60)) as u32),
+            3 => self.put(at, &[0; 4]),
+            _ => self.put(at + random.below(4), &[random.one_of(&[1, 0x2b, 0xff])]),
+        }
+    }
+
+    /// Room for a record that begins in the range and ends in the record behind it: its size copy is put there.
+    fn across(&mut self, random: &mut Random, range: &Range<usize>) -> Option<(usize, usize)> {
+        let behind = self.size_at(range.end);
+        if range.len() < 2 * HEAD || !(FRAME + 4..=900).contains(&behind) || random.once_in(2) {
+            return None;
+        }
+        let from = random.between(range.start + HEAD, range.end - HEAD);
+        let copy = range.end + random.between(HEAD, behind - 8);
+        let size = copy + 4 - from;
+        self.put32(copy, size as u32);
+        Some((from, size))
     }
 
     /// Bytes that look like something: stars, magics, zeros and others.

@@ -19,6 +19,7 @@ mod types;
 
 pub use crate::oracle::batch::Case;
 use random::Random;
+pub use stored::damaged_pair;
 
 /// The first `count` cases of a kind, if there is such a kind. The stored ones, those of the type
 /// codes, texts, short streams and short lists are the same for every seed; of `three` the seed is the first byte; the others
@@ -32,6 +33,7 @@ pub fn make(kind: &str, seed: u64, count: usize) -> Option<Box<dyn Iterator<Item
         "texts" => return Some(Box::new(texts::cases(texts::MOST).take(count))),
         "lists" => return Some(Box::new(body_cases::short_lists().take(count))),
         "chunk" => chunk_cases::of_one_chunk,
+        "pair" => chunk_cases::of_one_pair,
         "file" => file_cases::of_one_file,
         "token" => token_cases::of_one_stream,
         "body" => body_cases::of_one_body,

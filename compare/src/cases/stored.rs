@@ -13,6 +13,7 @@ const MAGIC: &[u8] = b"ElfChnk\0";
 
 pub fn cases() -> Vec<Case> {
     let mut cases = whole_chunks();
+    cases.extend(damaged_pair().map(|chunk| case(b'W', 1, 0, &[], &chunk)));
     cases.extend(short_chunks());
     cases.extend(stored_tokens::cases());
     cases.extend(stored_bodies::cases());
@@ -128,6 +129,30 @@ fn record(size: u32, copy: u32, id: u64, filetime: u64) -> Vec<u8> {
     record[16..24].copy_from_slice(&filetime.to_le_bytes());
     record[size as usize - 4..].copy_from_slice(&copy.to_le_bytes());
     record
+}
+
+/// Document 02's P14: three records, the second one with a record of ID 99 in its payload. In the one chunk the second has no magic, in the
+/// other its FILETIME is all ones, and the record in it has no magic.
+pub fn damaged_pair() -> [Vec<u8>; 2] {
+    let header = [(24, 1_u64), (32, 3)].map(|(at, id)| (at, id.to_le_bytes()));
+    let offsets = [(44, 596_u32), (48, 624)].map(|(at, offset)| (at, offset.to_le_bytes()));
+    let of = |second: u64| {
+        [
+            (512, record(28, 28, 1, 0)),
+            (540, record(56, 56, 2, second)),
+            (564, record(28, 28, 99, 0)),
+            (596, record(28, 28, 3, 0)),
+        ]
+    };
+    let chunk_of = |records: [(usize, Vec<u8>); 4], zero: usize| {
+        let mut parts: Vec<(usize, &[u8])> = Vec::new();
+        parts.extend(header.iter().map(|(at, bytes)| (*at, &bytes[..])));
+        parts.extend(offsets.iter().map(|(at, bytes)| (*at, &bytes[..])));
+        parts.extend(records.iter().map(|(at, bytes)| (*at, &bytes[..])));
+        parts.push((zero, &[0]));
+        chunk(&parts)
+    };
+    [chunk_of(of(0), 540), chunk_of(of(u64::MAX), 564)]
 }
 
 /// Records 7 to 12: 8 has a late FILETIME, between it and the next live one stand a record of another

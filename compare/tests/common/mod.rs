@@ -29,6 +29,7 @@ pub fn answers(batch: &[u8]) -> String {
     rust
 }
 
+#[allow(dead_code, reason = "not every check uses it")]
 pub fn hex(text: &str) -> Vec<u8> {
     let digits: Vec<char> = text.chars().filter(|c| !c.is_whitespace()).collect();
     let byte = |pair: &[char]| u8::from_str_radix(&String::from_iter(pair), 16).expect("hex");

@@ -19,6 +19,11 @@ pub mod OfDoortumble
 pub mod OfPrint
 pub mod OfAnswers
 pub mod Resume
+pub mod Forward
+pub mod Carving
+pub mod Damage
+pub mod Recovery
+pub mod DamagedPair
 pub mod Room
 pub mod Samples
 pub mod Fits

@@ -58,11 +58,12 @@ skip-place : (w : Walk) (p : ℕ) (f : Found) → skipTo w p f .place ≡ stands
 skip-place w p (F.At q) = refl
 skip-place w p F.Nothing = refl
 
--- where a refusal leaves the walk: at the resync offset of its place, or nowhere
-record Left (s : List ℕ) (h : Fields) (next : Walk) (place : ℕ) : Type 0 where
-  found : Found
-  least : Least (resyncable s h) (place + 1) found
-  stands : next .place ≡ standsAt found
+-- where a refusal leaves the walk, which had come to a state: set to the resync offset of the refusal's place, or over
+pub record Left (s : List ℕ) (h : Fields) (next : Walk) (place : ℕ) : Type 0 where
+  pub came : Walk
+  pub found : Found
+  pub least : Least (resyncable s h) (place + 1) found
+  pub is : next ≡ skipTo came place found
 
 -- an answer that is no refusal
 abbrev NoRefusal : Maybe Reply → Type 0
@@ -82,9 +83,10 @@ module _ (s : List ℕ) (h : Fields) (x : Walk × Maybe Reply) (number place : �
       let a : place ≡ c = cc in
       let b : place ≡ p = a ∙ refused-at s p k c e in
       record {
+        came = w;
         found = t .found;
         least = subst (λ (v : ℕ). Least (resyncable s h) (v + 1) (t .found)) (sym b) (t .least);
-        stands = ap (λ (v : Walk × Maybe Reply). v .0 .place) y ∙ skip-place w p (t .found);
+        is = ap (λ (v : Walk × Maybe Reply). v .0) y ∙ ap (λ (v : ℕ). skipTo w v (t .found)) (sym b);
       }
 
   read-left : (w : Walk) (p : ℕ) (a : Answer Record) → plainAt s p ≡ a → readTurn s h w p a (answered x) → Left s h (x .0) place
@@ -112,7 +114,7 @@ module _ (s : List ℕ) (h : Fields) (x : Walk × Maybe Reply) (number place : �
   turn-left w true t = carve-left w (t .found) (t .is)
   turn-left w false t = walk-left w (w .place) t
 
-  goes-left : {w : Walk} → Goes s h x w → Left s h (x .0) place
+  pub goes-left : {w : Walk} → Goes s h x w → Left s h (x .0) place
   goes-left {w} (answers t) = turn-left w (ltb (w .from) (w .to)) t
   goes-left {w} (goes-on t g) = goes-left g
 
@@ -233,4 +235,5 @@ refusal-resumes s h m header w v number place next items t least rest =
     let y = goes-left s h x number place refl (step-goes s h m w x header t) in
     let f = one (resyncable s h) (place + 1) (y .found) next (y .least) least in
     let n = found-next s h place next least in
-    next-live s h m header next v items (subst (λ (d : Place). NextLive s h d next) (sym (y .stands ∙ ap standsAt f)) n) rest
+    let at = ap (λ (z : Walk). z .place) (y .is) ∙ skip-place (y .came) place (y .found) ∙ ap standsAt f in
+    next-live s h m header next v items (subst (λ (d : Place). NextLive s h d next) (sym at) n) rest

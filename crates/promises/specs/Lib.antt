@@ -1,5 +1,7 @@
 -- Document 01's samples that are to be proved, and what the promises over the finished contracts say.
 pub mod Resume
+pub mod Damage
+pub mod DamagedPair
 pub mod Room
 pub mod Samples
 pub mod Packed
