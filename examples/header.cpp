@@ -290,11 +290,38 @@ bool chunk_header()
     return so;
 }
 
+// The merge: both rules, a word more that is no write, a result that is too short, and lists that are too long.
+bool merges()
+{
+    const uint64_t primary[10] = {5, 10, 1, 3, 7, 2, 5, 10, 3, 9};
+    const uint64_t other[9] = {5, 12, 4, 9, 1, 5, 3, 7, 6};
+    static const uint64_t too_long[3 * 4097] = {};
+    uint64_t result[10];
+    bool so = true;
+
+    for (uint32_t newest = 0; newest < 2; newest++) {
+        for (uint64_t &word : result)
+            word = untouched;
+        so &= refuses("a result for two rows", doortumble_merge(primary, 10, other, 9, newest, result, 8), DOORTUMBLE_SHORT_RESULT, 3);
+        so &= holds("a refused merge writes nothing", result[0] == untouched);
+        so &= counts("a merge", doortumble_merge(primary, 10, other, 9, newest, result, 10), 3);
+        const doortumble_write row = doortumble_write_at(result, 1);
+        so &= holds("the first row", result[0] == 3 && result[1] == 7 && result[2] == 2);
+        so &= holds("the rule", row.tag == 5 && row.filetime == (newest ? 12u : 10u) && row.value == (newest ? 4u : 3u));
+        so &= holds("the last row", result[6] == 9 && result[7] == 1 && result[8] == 5 && result[9] == untouched);
+    }
+    so &= counts("a merge of nothing", doortumble_merge(nullptr, 0, nullptr, 0, 1, nullptr, 0), 0);
+    so &= counts("4,096 writes", doortumble_merge(too_long, 3 * 4096 + 2, too_long, 3 * 4096, 1, result, 3), 1);
+    so &= refuses("4,097 of the primary", doortumble_merge(too_long, 3 * 4097, too_long, 3 * 4097, 1, result, 3), DOORTUMBLE_LONG_LIST, 0);
+    so &= refuses("4,097 of the other", doortumble_merge(too_long, 3 * 4096, too_long, 3 * 4097, 1, result, 3), DOORTUMBLE_LONG_LIST, 1);
+    return so;
+}
+
 } // namespace
 
 int main()
 {
-    const bool so[] = {nothing_lent(), empty_element(), kept_sheets(), announced(), pairs(), flags(), whole_file(), file_header(), chunk_header()};
+    const bool so[] = {nothing_lent(), empty_element(), kept_sheets(), announced(), pairs(), flags(), whole_file(), file_header(), chunk_header(), merges()};
 
     for (const bool one : so)
         if (!one)

@@ -1,6 +1,6 @@
 // doortumble.h: read Windows event logs from C (C99 or later) or C++.
 //
-// Eight calls over what the caller lends:
+// Eight calls of the reader, and the merge, over what the caller lends:
 //
 //   doortumble_list_file      the records of a whole log file, six words a row
 //   doortumble_list           the records of a chunk, five words a row
@@ -10,6 +10,7 @@
 //   doortumble_narrow         a sheet of the old layout from one of two words a token
 //   doortumble_file_header    the numbers of a log file's header, and whether its checksum is right
 //   doortumble_chunk_header   the numbers of a chunk's header, and whether its two checksums are right
+//   doortumble_merge          two controllers' lists of writes merged, three words a row (an archive of its own)
 //
 // To read a record, hand its row to doortumble_owners and doortumble_sheet like this: the stream is the WHOLE chunk, since names
 // are offsets in the chunk (of a file: the 65,536 bytes from the row's chunk on); start and length are doortumble_payload_start
@@ -25,7 +26,8 @@
 //   - The lent words must not overlap the bytes or the words that are given, and nobody may change any of them while the call
 //     runs.
 //
-// Link with target/staticlib/libdoortumble.a, which `rt staticlib doortumble` writes.
+// Link with target/staticlib/libdoortumble.a, which `rt staticlib doortumble` writes; doortumble_merge, and it alone, is in
+// target/staticlib/libmerge_call.a (`rt staticlib merge_call`), which links by itself or beside the other.
 #ifndef DOORTUMBLE_H
 #define DOORTUMBLE_H
 
@@ -46,6 +48,8 @@ extern "C" {
 #define DOORTUMBLE_MOST_ROWS 4645        // no chunk has more rows
 #define DOORTUMBLE_MOST_TOKENS 65536     // no stream has more tokens: each is a byte at least
 #define DOORTUMBLE_SHEET_WORDS 2         // words of a token in a sheet
+#define DOORTUMBLE_WRITE_WORDS 3         // words of a write, and of a row of a merge
+#define DOORTUMBLE_MOST_WRITES 4096      // no list that is merged has more writes
 
 // ------------------------------------------------------------------------------------------------------------- refusals
 
@@ -70,7 +74,9 @@ enum {
     DOORTUMBLE_SIZE_COPY = 17,      // a record's size copy differs; place: the record's offset (no call here answers it)
     DOORTUMBLE_WRONG_FILE = 18,     // fewer than 128 bytes, or wrong file magic; place: 0
     DOORTUMBLE_WRONG_SHEET = 19,    // not the stream's sheet; place: number of the first word wrong, missing or extra
-    DOORTUMBLE_DISAGREE = 20        // attribute bit and attributes disagree; place: token number
+    DOORTUMBLE_DISAGREE = 20,       // attribute bit and attributes disagree; place: token number
+    DOORTUMBLE_LONG_LIST = 27,      // a list of writes too long; place: 0 for the primary's, else 1
+    DOORTUMBLE_SHORT_RESULT = 28    // result too short; place: rows needed
 };
 
 // Why, in words, for the person who has to act on it.
@@ -118,13 +124,18 @@ static inline const char *doortumble_why(unsigned number)
                "with another start, length or flags";
     case DOORTUMBLE_DISAGREE:
         return "an element has attributes that its open token does not announce, or lacks the ones that it announces";
+    case DOORTUMBLE_LONG_LIST:
+        return "a list has more than 4,096 writes: the primary's (place 0), or else the other's (place 1)";
+    case DOORTUMBLE_SHORT_RESULT:
+        return "the result is too short: lend three words for each of as many rows as the place says";
     default:
         return "there is no such refusal: this header does not belong to the library that was linked";
     }
 }
 
 // What the place of a refusal counts, in a word: "offset" (bytes from the start of the chunk, stream or file), "token" (a token's
-// number, from 0), "tokens" (how many there are), "word" (a word's number, from 0) or "words" (how many are needed).
+// number, from 0), "tokens" (how many there are), "word" (a word's number, from 0), "words" or "rows" (how many are needed) or "list" (0 the
+// primary's, 1 the other's).
 static inline const char *doortumble_place_is(unsigned number)
 {
     switch (number) {
@@ -138,6 +149,10 @@ static inline const char *doortumble_place_is(unsigned number)
         return "word";
     case DOORTUMBLE_NO_ROOM:
         return "words";
+    case DOORTUMBLE_LONG_LIST:
+        return "list";
+    case DOORTUMBLE_SHORT_RESULT:
+        return "rows";
     default:
         return "offset";
     }
@@ -540,6 +555,45 @@ static inline int doortumble_has_owner(uint32_t word)
 static inline uint32_t doortumble_owner(uint32_t word)
 {
     return word - 1;
+}
+
+// ------------------------------------------------------------------------------------------------------------ the merge
+
+// Merge two lists of writes, one a controller: for each tag that occurs in either, in rising tag number, one write.
+//
+//   primary, primary_len   the primary's writes, and their length in words: three words a write, see doortumble_write. One or
+//   other, other_len       two words more are no write. The other controller's writes likewise
+//   newest                 0: rule one, the primary's newest write of the tag if it has any, else the other's newest.
+//                          Not 0: rule two, the newest of both, the primary's at equal times
+//   result, result_len     lent for the rows, three words each, and their length in words; as many words as both lists have are
+//                          always enough
+//
+// Newest in a list is the write with the greatest FILETIME; at equal times within a list, the one at the later place.
+//
+// Answer: how many rows were written, or a refusal: 27 where a list has more than 4,096 writes (at 0 the primary's, else at 1), then
+// 28 where the result is too short (its place is the rows needed, so a call with 0 words asks for them). Both lists may be empty.
+//
+// A refusal leaves the result as it was; words past the last row stay. The result must not overlap the lists. Nothing is kept or
+// allocated, at most 1 MiB of stack is needed, and a null pointer with length 0 is allowed.
+uint64_t doortumble_merge(const uint64_t *primary, size_t primary_len, const uint64_t *other, size_t other_len,
+                          uint32_t newest, uint64_t *result, size_t result_len);
+
+typedef struct doortumble_write {
+    uint64_t tag;      // the tag's number
+    uint64_t filetime; // when it was written, in steps of 100 ns from the year 1601; none is refused
+    uint64_t value;    // the value's stored bits, which are not looked at
+} doortumble_write;
+
+// Write n, counted from 0, of a list, or row n of a result.
+static inline doortumble_write doortumble_write_at(const uint64_t *words, uint64_t n)
+{
+    const uint64_t *three = words + n * DOORTUMBLE_WRITE_WORDS;
+    doortumble_write write;
+
+    write.tag = three[0];
+    write.filetime = three[1];
+    write.value = three[2];
+    return write;
 }
 
 #ifdef __cplusplus

@@ -304,3 +304,47 @@ impl<'a> TokenSink<'a> for Sheet<'_> {
         self.nameless(kinds::SUBSTITUTION, id, optional)
     }
 }
+
+/// The merge of two lists of writes as one would write it with std: each list sorted by tag and time, which keeps places in order, then one
+/// pass over both. (The printed Rust has no merge.)
+pub fn merge<'a>(primary: &'a [u64], other: &'a [u64], rule_two: bool) -> Call<'a> {
+    Box::new(move |rows| {
+        let (primary, other) = (sorted(primary), sorted(other));
+        let (mut i, mut j, mut count) = (0, 0, 0);
+        while i < primary.len() || j < other.len() {
+            let tag = match (primary.get(i), other.get(j)) {
+                (Some(a), Some(b)) => a[0].min(b[0]),
+                (Some(a), None) => a[0],
+                (None, Some(b)) => b[0],
+                (None, None) => break,
+            };
+            let first = newest(&primary, &mut i, tag);
+            let second = newest(&other, &mut j, tag);
+            let row = match (first, second) {
+                (Some(a), Some(b)) if rule_two && a[1] < b[1] => b,
+                (Some(a), _) => a,
+                (None, Some(b)) => b,
+                (None, None) => break,
+            };
+            rows[3 * count..3 * count + 3].copy_from_slice(&row);
+            count += 1;
+        }
+        count as u64
+    })
+}
+
+fn sorted(list: &[u64]) -> Vec<[u64; 3]> {
+    let mut writes = list.as_chunks::<3>().0.to_vec();
+    writes.sort_by_key(|write| (write[0], write[1]));
+    writes
+}
+
+/// The last write of a tag, where the tag is the next one; `at` goes past it.
+fn newest(writes: &[[u64; 3]], at: &mut usize, tag: u64) -> Option<[u64; 3]> {
+    let mut newest = None;
+    while let Some(write) = writes.get(*at).filter(|write| write[0] == tag) {
+        newest = Some(*write);
+        *at += 1;
+    }
+    newest
+}

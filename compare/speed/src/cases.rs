@@ -1,6 +1,6 @@
 //! The cases: what is called on what, and what it has to answer.
 
-use crate::inputs::{self, Stream};
+use crate::inputs::{self, Lists, Stream, Tags};
 use crate::port;
 use compare::oracle::kinds::{ANNOUNCING, ATTRIBUTE, OPEN};
 use compare::oracle::owners::{self, MOST_LEVELS};
@@ -48,6 +48,7 @@ pub enum Kind {
     Owners,
     /// The sheet from a kept one. The Rust has no such thing: it stands beside the port's own sheet call.
     Widen,
+    Merge,
 }
 
 /// What it is called on.
@@ -55,6 +56,7 @@ pub enum Input {
     Chunk(Vec<u8>),
     File(Vec<u8>),
     Stream(Stream),
+    Lists(Lists),
 }
 
 pub struct Case {
@@ -103,6 +105,10 @@ impl Case {
             (Kind::Widen, Input::Stream(Stream { bytes, asked })) => match side {
                 Side::Port => port::widen(bytes, *asked),
                 _ => port::sheet(bytes, *asked),
+            },
+            (Kind::Merge, Input::Lists(Lists { primary, other })) => match side {
+                Side::Port => port::merge(primary, other, true),
+                _ => timed::merge(primary, other, true),
             },
             (kind, Input::Stream(Stream { bytes, asked })) => match side {
                 Side::Port if kind == Kind::Owners => port::owners(bytes, *asked),
@@ -204,6 +210,13 @@ pub fn all() -> Vec<Case> {
         }),
         input: Input::Stream(stream),
     };
+    // The goal is for 4,096 writes in each list.
+    let merge = |name, tags, writes| Case {
+        name,
+        kind: Kind::Merge,
+        goal: (writes == 4096).then_some(1.5),
+        input: Input::Lists(inputs::lists(tags, writes)),
+    };
     let repeated = inputs::repeated;
     let elements = inputs::elements;
     vec![
@@ -246,5 +259,12 @@ pub fn all() -> Vec<Case> {
         stream("owners: single", Owners, inputs::single()),
         stream("owners: single in chunk", Owners, inputs::single_in_chunk()),
         stream("widen: elements", Widen, elements(false, false)),
+        merge("merge: tags rise", Tags::Rising, 4096),
+        merge("merge: one tag", Tags::One, 4096),
+        merge("merge: random tags", Tags::Random, 4096),
+        merge("merge: all different", Tags::Different, 4096),
+        merge("merge: different, 1,024", Tags::Different, 1024),
+        merge("merge: different, 256", Tags::Different, 256),
+        merge("merge: different, 64", Tags::Different, 64),
     ]
 }

@@ -399,3 +399,47 @@ impl Maker {
         self.put(&[0x01]);
     }
 }
+
+/// Two lists of writes.
+pub struct Lists {
+    pub primary: Vec<u64>,
+    pub other: Vec<u64>,
+}
+
+/// The tags of two lists: all different, rising or in any order; one tag; any of 1,024.
+#[derive(Clone, Copy)]
+pub enum Tags {
+    Rising,
+    Different,
+    One,
+    Random,
+}
+
+/// Lists of so many writes each. Times rise, as in a log.
+pub fn lists(tags: Tags, writes: usize) -> Lists {
+    let mut random = Random::new(23);
+    let mut list = |from: u64| {
+        let mut order: Vec<u64> = (0..writes as u64).map(|i| from + 2 * i).collect();
+        match tags {
+            Tags::Rising => {}
+            Tags::Different => {
+                for i in (1..order.len()).rev() {
+                    order.swap(i, random.below(i + 1));
+                }
+            }
+            Tags::One => order.fill(5),
+            Tags::Random => order.iter_mut().for_each(|tag| *tag = random.below(1024) as u64),
+        }
+        let mut time = 133_500_000_000_000_000;
+        let mut words = Vec::with_capacity(3 * writes);
+        for tag in order {
+            time += random.below(1000) as u64;
+            words.extend([tag, time, random.word()]);
+        }
+        words
+    };
+    Lists {
+        primary: list(0),
+        other: list(1),
+    }
+}

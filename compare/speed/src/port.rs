@@ -51,6 +51,32 @@ unsafe extern "C" {
         table: *mut u32,
         table_len: usize,
     ) -> u64;
+    fn doortumble_merge(
+        primary: *const u64,
+        primary_len: usize,
+        other: *const u64,
+        other_len: usize,
+        newest: u32,
+        result: *mut u64,
+        result_len: usize,
+    ) -> u64;
+}
+
+pub fn merge<'a>(primary: &'a [u64], other: &'a [u64], rule_two: bool) -> Call<'a> {
+    Box::new(move |rows| {
+        // SAFETY: the words are good for their lengths.
+        unsafe {
+            doortumble_merge(
+                primary.as_ptr(),
+                primary.len(),
+                other.as_ptr(),
+                other.len(),
+                u32::from(rule_two),
+                rows.as_mut_ptr(),
+                rows.len(),
+            )
+        }
+    })
 }
 
 pub fn list(chunk: &[u8], recovery: bool) -> Call<'_> {

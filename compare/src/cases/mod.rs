@@ -6,6 +6,7 @@ mod chunks;
 pub mod file_cases;
 mod kept_cases;
 pub mod lists;
+pub mod merge_cases;
 pub mod random;
 pub mod real;
 mod short;
@@ -38,6 +39,7 @@ pub fn make(kind: &str, seed: u64, count: usize) -> Option<Box<dyn Iterator<Item
         "token" => token_cases::of_one_stream,
         "body" => body_cases::of_one_body,
         "kept" => kept_cases::of_one_sheet,
+        "merge" => merge_cases::of_two_lists,
         _ => return None,
     };
     let mut random = Random::new(seed);

@@ -4,6 +4,7 @@
 //! only how answers are written, how document 02 cuts a file, and the machine of mode O, which the checks hold to the grammar.
 
 pub mod chunks;
+pub mod merges;
 mod reader;
 pub mod streams;
 mod values;
@@ -31,6 +32,7 @@ pub fn answer(case: &Case, out: &mut String) {
         b'O' => owners::push(rows(data, case.walk()), out),
         b'C' => calls::push(rows(data, case.walk()), case.call(), out),
         b'K' => calls::push_moved(rows(data, case.walk()), &case.moved(), out),
+        b'M' => merges::push(&case.parts(), case.flag(1), out),
         mode => unreachable!("a case of mode {mode}"),
     }
 }

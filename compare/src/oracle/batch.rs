@@ -1,6 +1,7 @@
 //! A batch of cases and its answers, in all modes.
 
 use crate::document;
+use crate::document::merges::Parts;
 use crate::oracle::calls::{Call, Move};
 use crate::oracle::chunk::State;
 use crate::oracle::differences::{self, Met};
@@ -14,6 +15,7 @@ const STATE: usize = 40;
 const ROOM: usize = 4;
 const KEPT: usize = 8;
 const WORD: usize = 8;
+const NUMBERS: usize = 12;
 
 /// A case: its head's fields and its data.
 pub struct Case {
@@ -47,6 +49,7 @@ impl Case {
             b'P' => Some(STATE),
             b'C' => Some(ROOM),
             b'K' => Some(KEPT),
+            b'M' => Some(NUMBERS),
             _ => None,
         }
     }
@@ -88,6 +91,11 @@ impl Case {
             *word = u64::from_le_bytes(*bytes);
         }
         State::from_words(words)
+    }
+
+    /// Mode M's parts.
+    pub(crate) fn parts(&self) -> Parts {
+        Parts::new(&self.data).expect("a case has them")
     }
 
     /// Mode C's call.
@@ -180,6 +188,9 @@ fn next_case(input: &mut impl Read) -> io::Result<Next> {
     if data.len() < size {
         return Ok(Next::Bad);
     }
+    if mode == b'M' && Parts::new(&data).is_none() {
+        return Ok(Next::Bad);
+    }
     let case = Case {
         mode,
         flags: head[1],
@@ -236,6 +247,11 @@ fn answer(case: &Case, out: &mut String) -> Met {
             let (rows, met) = tokens::rows(data, case.walk());
             calls::push_moved(rows, &case.moved(), out);
             met
+        }
+        // The printed Rust has no merge: the second reading answers for it.
+        b'M' => {
+            document::merges::push(&case.parts(), case.flag(1), out);
+            Met::new()
         }
         mode => unreachable!("a case of mode {mode}"),
     }

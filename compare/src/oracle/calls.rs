@@ -57,9 +57,9 @@ impl Row {
 }
 
 /// What a call answers: the count of tokens and the words that it leaves, or its refusal.
-struct Filled {
-    count: usize,
-    words: Vec<u64>,
+pub(crate) struct Filled {
+    pub count: usize,
+    pub words: Vec<u64>,
 }
 
 impl Filled {
@@ -139,12 +139,28 @@ fn push_lent(
     ones: u64,
     out: &mut String,
 ) {
-    let room = MOST_ROOM.min(room as usize);
+    let room = self::room(room);
     // 16 comes last: "lent sheet or table too short", "words needed"; "refusal 16 for a sheet counts two words a token".
     let filled = filled.and_then(|filled| match filled.words.len() {
         needed if needed > room => Err(Refusal::new(16, needed as u64)),
         _ => Ok(filled),
     });
+    push_left(filled, room, digits, ones, out);
+}
+
+/// How many words a case lends.
+pub(crate) fn room(said: u32) -> usize {
+    MOST_ROOM.min(said as usize)
+}
+
+/// A call's answer, and the words that it leaves of `room` lent ones, which were `ones`, in so many digits.
+pub(crate) fn push_left(
+    filled: Result<Filled, Refusal>,
+    room: usize,
+    digits: usize,
+    ones: u64,
+    out: &mut String,
+) {
     writeln!(out, "answer {:016x}", answer_word(&filled)).expect("a String takes all");
 
     // "A refusal writes nothing"; "words past the token count stay".

@@ -41,3 +41,5 @@ pub mod Told
 pub mod Marks
 pub mod Words
 pub mod Sound
+pub mod Merging
+pub mod OfMerge

@@ -11,3 +11,4 @@ pub mod Words
 pub mod Told
 pub mod Kept
 pub mod Sound
+pub mod Merging
