@@ -96,9 +96,10 @@ fn view_moved(v: View, by: usize) -> View
     requires { ⌜ by + v .part .start < 2 ^ 64 ⌝ }
     ensures { λ r. ⌜ r ≡ viewMoved by v ⌝ }
 {
-    let mut there = v;
-    there.part = part_moved(v.part, by);
-    there
+    View {
+        part: part_moved(v.part, by),
+        sound: v.sound,
+    }
 }
 
 fn refused(number: u8, place: usize) -> ContentRead
