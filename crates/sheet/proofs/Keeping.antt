@@ -8,22 +8,23 @@ use native.Mathlib.Omega.{arith}
 use native.Mathlib.Decide.{decLt}
 use borrow.Author.Tests.{eqb-true, eqb-false, eq-eqb, ne-eqb}
 use lib.Dec.{eqb, leb}
-use lib.ListN.{length, drop, getD, set, length-append, drop-of-length-le}
-use lib.Seq.{sets, length-sets, drop-cons, drop-drop, getD-set-same, getD-set-other}
-use Rattle.cursor.specs.Answer.{Answer, given, Result, gives, refuses, Maybe, just, nothing, pick}
+use lib.ListN.{length, drop, getD, length-append, drop-of-length-le}
+use lib.Seq.{drop-cons, drop-drop}
+use Rattle.cursor.specs.Answer.{given, Result, gives, refuses, Maybe, just, nothing, pick}
 use Rattle.cursor.specs.Lent.{lentAnswer, lentLeft}
 use Rattle.cursor.specs.Refusals.{noRoom, wrongSheet}
 use Rattle.cursor.proofs.Choice.{either}
-use Rattle.tokens.specs.Walk.{Met, handed, Walked, ok, bad, stepAt, walkAt, countedOf}
+use Rattle.tokens.specs.Walk.{handed, Walked, ok, bad, stepAt, walkAt, countedOf}
 use Rattle.tokens.specs.declared.Flags.{Flags}
 use Rattle.tokens.specs.declared.Token.{Token}
-use Rattle.sheet.specs.Sheet.{firstWordOf, secondWordOf, wordsOfToken, wordsPerToken, readAt, wordsOf, sheetAnswer, sheetWords}
+use Rattle.sheet.specs.Sheet.{withoutBit, firstWordOf, secondWordOf, readAt, wordsOf, sheetAnswer, sheetWords}
 use Rattle.sheet.specs.Kept.{inForm, oneLater, differsAt, unless, countedIn, besideAnswer, keptAnswer, keptWords}
-use Rattle.sheet.specs.Noted.{FirstNoted, oneInForm, formWidth, agreeing, RightSoFar, endedWith}
+use Rattle.sheet.specs.Noted.{oneInForm, twoInForm, formWidth, agreeing, RightSoFar, endedWith}
 use Rattle.sheet.specs.declared.Form.{Form}
 use Rattle.sheet.specs.declared.Form.the-variants as F
 use Rattle.sheet.proofs.Noting.{Numbers, read-token}
 use Rattle.sheet.proofs.Laying.{all-read}
+use Rattle.sheet.proofs.OldWord.{old-word}
 
 -- no words agree with none
 pub none-given : (a : List ℕ) → agreeing a [] ≡ 0
@@ -148,13 +149,11 @@ two-some kept at x y first e n =
     let d : drop 1 (drop at kept) ≡ drop first kept = drop-drop 1 at kept ∙ ap (λ (j : ℕ). drop j kept) i in
     omega (arith, e, k, agreeing-all (x ∷ []) (y ∷ []) (drop at kept) k, ap (agreeing (y ∷ [])) d)
 
--- a token's words are set, and the first of them stands there
-pub first-noted : (l words : List ℕ) (n : ℕ) (t : Token) → words ≡ sets l (n * wordsPerToken) (wordsOfToken t) → FirstNoted words n t
-first-noted l words n t e h =
-    let i = n * wordsPerToken in
-    let k : i < length l = omega (arith, h, ap length e, length-sets l i (wordsOfToken t)) in
-    let z : i ≡ suc i → ⊥ = λ q. omega (arith, q) in
-    ap (λ (x : List ℕ). getD x i 0) e ∙ getD-set-other (set l i (firstWordOf t)) (suc i) i (secondWordOf t) 0 z ∙ getD-set-same l i (firstWordOf t) 0 k
+-- a token's words in a form are those of its two words
+pub two-in-form : (form : Form) (t : Token) (first second : ℕ) → first ≡ firstWordOf t → second ≡ secondWordOf t → twoInForm form first second ≡ oneInForm form t
+two-in-form F.Nothing t first second e g = refl
+two-in-form F.Old t first second e g = ap (λ (x : ℕ). x ∷ []) (ap withoutBit e ∙ old-word t)
+two-in-form F.New t first second e g = ap (λ (x : ℕ). x ∷ second ∷ []) e ∙ ap (λ (y : ℕ). firstWordOf t ∷ y ∷ []) g
 
 -- a given sheet's words, by its form
 pub form-none : (form : Form) → inForm form [] ≡ []

@@ -50,6 +50,10 @@ put-first left next i a x y short h e =
     let k : length (set left i x) ≤ suc i = omega (arith, length-set left i x) in
     h ∙ ap (set left i) e ∙ sym (set-out (set left i x) (suc i) y k)
 
+-- two numbers set, under other names
+pub both-as : (left next : List ℕ) (i a b x y : ℕ) → next ≡ sets left i (a ∷ b ∷ []) → a ≡ x → b ≡ y → next ≡ sets left i (x ∷ y ∷ [])
+both-as left next i a b x y h e g = h ∙ ap (λ (n : ℕ). sets left i (n ∷ b ∷ [])) e ∙ ap (λ (n : ℕ). sets left i (x ∷ n ∷ [])) g
+
 -- more numbers set behind those that are set
 sets-more : (a b l : List ℕ) (i : ℕ) → sets (sets l i a) (i + length a) b ≡ sets l i (a ++ b)
 sets-more [] b l i = ap (λ (k : ℕ). sets l k b) (add-zero i)

@@ -3,12 +3,12 @@ use mathlib.Core.Path.{_≡_}
 use mathlib.Core.List.{List, [], _∷_}
 use Prim.Native.Nat.{ℕ, suc, _+_, _*_, _≤_, _<_}
 use lib.Dec.{eqb}
-use lib.ListN.{length, getD, take, drop}
+use lib.ListN.{length, take, drop}
 use Rattle.cursor.specs.Answer.{Result, gives, refuses, pick}
 use Rattle.cursor.specs.Refusals.{wrongSheet}
 use Rattle.tokens.specs.declared.Flags.{Flags}
 use Rattle.tokens.specs.declared.Token.{Token}
-use Rattle.sheet.specs.Sheet.{wordOf, firstWordOf, wordsOfToken, wordsOf, wordsPerToken, readAt}
+use Rattle.sheet.specs.Sheet.{wordOf, withoutBit, wordsOfToken, wordsOf, wordsPerToken, readAt}
 use Rattle.sheet.specs.declared.Form.{Form}
 use Rattle.sheet.specs.declared.Form.the-variants as F
 
@@ -16,16 +16,19 @@ use Rattle.sheet.specs.declared.Form.the-variants as F
 abbrev pub Noted : List ℕ → ℕ → Flags → ℕ → ℕ → List ℕ → Type 0
 Noted s end f start n words = n * wordsPerToken ≤ length words → take (n * wordsPerToken) words ≡ wordsOf (readAt s end f start)
 
--- where there was room, the first word of token n is
-abbrev pub FirstNoted : List ℕ → ℕ → Token → Type 0
-FirstNoted words n t = n * wordsPerToken < length words → getD words (n * wordsPerToken) 0 ≡ firstWordOf t
-
--- a token's words by the form of a given sheet, and how many they are
+-- a token's words by the form of a given sheet
 abbrev pub oneInForm : Form → Token → List ℕ
 oneInForm F.Nothing t = []
 oneInForm F.Old t = wordOf t ∷ []
 oneInForm F.New t = wordsOfToken t
 
+-- the same out of its two words
+abbrev pub twoInForm : Form → ℕ → ℕ → List ℕ
+twoInForm F.Nothing first second = []
+twoInForm F.Old first second = withoutBit first ∷ []
+twoInForm F.New first second = first ∷ second ∷ []
+
+-- how many they are
 abbrev pub formWidth : Form → ℕ
 formWidth F.Nothing = 0
 formWidth F.Old = 1

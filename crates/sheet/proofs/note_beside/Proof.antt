@@ -1,7 +1,8 @@
 -- `note_beside` meets its contract: after n tokens their words and marks are noted, so many words of the given sheet are right, and the rest of
 -- the walk is left. Assumes nothing.
 use mathlib.Core.Path.{_≡_, sym, ap, subst, _∙_}
-use Prim.Native.Nat.{_+_, _-_, _*_, _^_, _≤_}
+use mathlib.Core.List.{List}
+use Prim.Native.Nat.{ℕ, _+_, _-_, _*_, _^_, _≤_}
 use native.Mathlib.Nat.{zero-mul}
 use native.Mathlib.Omega.{arith}
 use borrow.Author.Needs.{needs}
@@ -10,9 +11,9 @@ use Rattle.tokens.specs.Walk.{stepAnswer, walkAt, countedOf}
 use Rattle.tokens.proofs.Reach.{Grows}
 use Rattle.tokens.proofs.Steps.{step-grows, walk-is, walk-token, plus, plus-zero, plus-none, plus-before}
 use Rattle.sheet.specs.Kept.{inForm}
-use Rattle.sheet.specs.Noted.{formWidth}
-use Rattle.sheet.proofs.Noting.{words, marks, set-one, read-is, Noting, noting-start, noting-next, noting-last, noting-refused}
-use Rattle.sheet.proofs.Keeping.{first-noted, formed, one-more, Along, along-start, along-next, along-over, beside-ended, beside-refused}
+use Rattle.sheet.specs.Noted.{formWidth, RightSoFar}
+use Rattle.sheet.proofs.Noting.{words, marks, set-one, both-as, read-is, Noting, noting-start, noting-next, noting-last, noting-refused}
+use Rattle.sheet.proofs.Keeping.{two-in-form, formed, one-more, Along, along-start, along-next, along-over, beside-ended, beside-refused}
 use Rattle.sheet.proofs.note_beside.Statement.{statement}
 use Rattle.sheet.proofs.note_beside.Tie as tie
 
@@ -39,51 +40,54 @@ loop-holds c =
 
 put-words-requires : tie.Need-put-words-requires Inv-loop μ-loop
 put-words-requires c κs =
-    let l = c .before .before .before .before .before .loop in
-    let a = c .before .before .before .before .before .before .before .before .before .before .args in
-    let e = sym (c .before .before .before .before .step .ensures) ∙ ap stepAnswer (c .before .before .t .given .1) in
+    let l = c .before .before .before .before .before .before .before .loop in
+    let a = c .before .before .before .before .before .before .before .before .before .before .before .before .args in
+    let e = sym (c .before .before .before .before .before .before .step .ensures) ∙ ap stepAnswer (c .before .before .before .before .t .given .1) in
     let h = subst (Grows (l .at) (length (a .s .now))) e (step-grows (a .s .now) (a .end) (a .flags) (l .at)) in
     omega (arith, l .inv .0, h .0, h .1, h .2)
 
 beside-requires : tie.Need-beside-requires Inv-loop μ-loop
 beside-requires c κs =
-    let l = c .before .before .before .before .before .before .before .before .before .before .before .before .before .before .loop in
-    let a = c .before .before .before .before .before .before .before .before .before .before .before .before .before .before .before .before .before .before .before .args in
-    let e = sym (c .before .before .before .before .before .before .before .before .before .before .before .before .before .step .ensures) ∙ ap stepAnswer (c .before .before .before .before .before .before .before .before .before .before .before .t .given .1) in
-    let h = subst (Grows (l .at) (length (a .s .now))) e (step-grows (a .s .now) (a .end) (a .flags) (l .at)) in
-    let b : l .n * 2 + 2 ≤ 2 ^ 64 = omega (arith, l .inv .0, h .0, h .1, h .2, l .inv .6) in
-    (b, first-noted (l .words) _ (l .n) (c .before .before .before .before .before .before .before .before .before .before .before .t .given .0 .0) (c .before .before .before .before .before .before .before .before .put-words .ensures))
-
-add-n : tie.Need-add-n Inv-loop μ-loop
-add-n c =
     let l = c .before .before .before .before .before .before .before .before .before .before .before .before .before .before .before .loop in
     let a = c .before .before .before .before .before .before .before .before .before .before .before .before .before .before .before .before .before .before .before .before .args in
     let e = sym (c .before .before .before .before .before .before .before .before .before .before .before .before .before .before .step .ensures) ∙ ap stepAnswer (c .before .before .before .before .before .before .before .before .before .before .before .before .t .given .1) in
+    let h = subst (Grows (l .at) (length (a .s .now))) e (step-grows (a .s .now) (a .end) (a .flags) (l .at)) in
+    omega (arith, l .inv .0, h .0, h .1, h .2, l .inv .6)
+
+add-n : tie.Need-add-n Inv-loop μ-loop
+add-n c =
+    let l = c .before .before .before .before .before .before .before .before .before .before .before .before .before .before .before .before .loop in
+    let a = c .before .before .before .before .before .before .before .before .before .before .before .before .before .before .before .before .before .before .before .before .before .args in
+    let e = sym (c .before .before .before .before .before .before .before .before .before .before .before .before .before .before .before .step .ensures) ∙ ap stepAnswer (c .before .before .before .before .before .before .before .before .before .before .before .before .before .t .given .1) in
     let h = subst (Grows (l .at) (length (a .s .now))) e (step-grows (a .s .now) (a .end) (a .flags) (l .at)) in
     omega (arith, l .inv .0, h .0, h .1, h .2)
 
 loop-less : tie.Need-loop-less Inv-loop μ-loop
 loop-less c =
-    let l = c .before .before .before .before .before .before .before .before .before .before .before .before .before .before .before .loop in
-    let a = c .before .before .before .before .before .before .before .before .before .before .before .before .before .before .before .before .before .before .before .before .args in
-    let e = sym (c .before .before .before .before .before .before .before .before .before .before .before .before .before .before .step .ensures) ∙ ap stepAnswer (c .before .before .before .before .before .before .before .before .before .before .before .before .t .given .1) in
+    let l = c .before .before .before .before .before .before .before .before .before .before .before .before .before .before .before .before .loop in
+    let a = c .before .before .before .before .before .before .before .before .before .before .before .before .before .before .before .before .before .before .before .before .before .args in
+    let e = sym (c .before .before .before .before .before .before .before .before .before .before .before .before .before .before .before .step .ensures) ∙ ap stepAnswer (c .before .before .before .before .before .before .before .before .before .before .before .before .before .t .given .1) in
     let h = subst (Grows (l .at) (length (a .s .now))) e (step-grows (a .s .now) (a .end) (a .flags) (l .at)) in
     omega (arith, h .0, h .1, h .2)
 
 loop-again : tie.Need-loop-again Inv-loop μ-loop
 loop-again c =
-    let l = c .before .before .before .before .before .before .before .before .before .before .before .before .before .before .before .loop in
-    let a = c .before .before .before .before .before .before .before .before .before .before .before .before .before .before .before .before .before .before .before .before .args in
-    let e = sym (c .before .before .before .before .before .before .before .before .before .before .before .before .before .before .step .ensures) ∙ ap stepAnswer (c .before .before .before .before .before .before .before .before .before .before .before .before .t .given .1) in
+    let l = c .before .before .before .before .before .before .before .before .before .before .before .before .before .before .before .before .loop in
+    let a = c .before .before .before .before .before .before .before .before .before .before .before .before .before .before .before .before .before .before .before .before .before .args in
+    let e = sym (c .before .before .before .before .before .before .before .before .before .before .before .before .before .before .before .step .ensures) ∙ ap stepAnswer (c .before .before .before .before .before .before .before .before .before .before .before .before .before .t .given .1) in
     let h = subst (Grows (l .at) (length (a .s .now))) e (step-grows (a .s .now) (a .end) (a .flags) (l .at)) in
-    let g = c .before .before .before .before .before .before .before .before .before .before .before .before .t .given .0 in
-    let m = set-one (l .kinds) _ (l .n) _ _ (c .before .before .before .before .put-mark .ensures) (c .before .before .before .before .before .mark .ensures) in (
+    let g = c .before .before .before .before .before .before .before .before .before .before .before .before .before .t .given .0 in
+    let first = c .before .before .before .before .before .before .before .before .before .before .before .first-word .ensures in
+    let second = c .before .before .before .before .before .before .before .before .before .before .second-word .ensures in
+    let w = both-as (l .words) _ (l .n * 2) _ _ _ _ (c .before .before .before .before .before .before .before .before .put-words .ensures) first second in
+    let m = set-one (l .kinds) _ (l .n) _ _ (c .before .before .before .put-mark .ensures) (c .before .before .before .before .mark .ensures) in
+    let r = subst (λ (x : List ℕ). RightSoFar (l .n * formWidth (a .form)) x (a .given .now) (l .same) (c .beside .result)) (two-in-form (a .form) (g .0) _ _ first second) (c .beside .ensures) in (
       omega (arith, l .inv .0, h .0, h .1),
       l .inv .1 ∙ ap (plus (l .n)) (walk-token (a .s .now) (a .end) (a .flags) (l .at) _ _ e)
           ∙ plus-before (l .n) (g .0) (walkAt (a .s .now) (a .end) (a .flags) (g .1 .0 .at)),
-      noting-next (a .s .now) (a .end) (a .flags) words (a .start) (l .at) (l .n) (a .words .now) (l .words) (l .inv .2) (g .0) _ e _ (c .before .before .before .before .before .before .before .before .before .put-words .ensures),
+      noting-next (a .s .now) (a .end) (a .flags) words (a .start) (l .at) (l .n) (a .words .now) (l .words) (l .inv .2) (g .0) _ e _ w,
       noting-next (a .s .now) (a .end) (a .flags) marks (a .start) (l .at) (l .n) (a .kinds .now) (l .kinds) (l .inv .3) (g .0) _ e _ m,
-      along-next (a .s .now) (a .end) (a .flags) (formed (a .form)) (a .start) (a .given .now) (l .at) (l .n * formWidth (a .form)) _ (l .same) (l .inv .4) (g .0) _ e _ (c .beside .ensures) (one-more (l .n) (formWidth (a .form))),
+      along-next (a .s .now) (a .end) (a .flags) (formed (a .form)) (a .start) (a .given .now) (l .at) (l .n * formWidth (a .form)) _ (l .same) (l .inv .4) (g .0) _ e _ r (one-more (l .n) (formWidth (a .form))),
       omega (arith, l .inv .0, h .0, h .1, h .2),
       l .inv .6,
     )
@@ -139,6 +143,8 @@ note-beside-spec =
     loop-holds
     (λ c κs. search needs)
     (λ c. search needs)
+    (λ c κs. search needs)
+    (λ c κs. search needs)
     put-words-requires
     (λ c κs. search needs)
     (λ c κs. search needs)

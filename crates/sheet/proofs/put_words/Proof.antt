@@ -7,13 +7,13 @@ use Rattle.sheet.proofs.put_words.Tie as tie
 
 returns : tie.Need-returns
 returns c =
-    let a = c .before .before .before .before .args in
-    put-two (a .words .now) _ _ _ _ _ _ refl (c .before .first-word .ensures) (c .second-word .ensures)
+    let a = c .before .before .args in
+    put-two (a .words .now) _ _ _ _ _ _ refl refl refl
 
 returns-2 : tie.Need-returns-2
 returns-2 c =
-    let a = c .before .before .before .before .before .before .before .args in
-    put-first (a .words .now) _ _ _ _ _ (c .before .before .before .before .before .if1 .left) (c .before .before .put-word .ensures) (c .before .before .before .first-word2 .ensures)
+    let a = c .before .before .before .before .before .before .args in
+    put-first (a .words .now) _ _ _ _ _ (c .before .before .before .before .if1 .left) (c .before .before .put-word .ensures) refl
 
 pub put-words-spec : {M : Type 1} → statement M
 put-words-spec =
@@ -21,16 +21,13 @@ put-words-spec =
     (tie.spec
     (λ c. search needs)
     (λ c. search needs)
-    (λ c κs. search needs)
     (λ c. search needs)
     (λ c. search needs)
-    (λ c κs. search needs)
     (λ c. search needs)
     (λ c. search needs)
     (λ c. search needs)
     (λ c. search needs)
     returns
-    (λ c κs. search needs)
     (λ c κs. search needs)
     (λ c. search needs)
     returns-2)
