@@ -39,19 +39,23 @@ struct open_token {
     uint32_t name;
 };
 
-// Whether a stream, read with these flags, is such an open token and a close empty.
+// Whether a stream, read with these flags, is such an open token, an attribute where it announces them, a close empty and the end.
 bool opens(const uint8_t *stream, size_t stream_len, uint32_t dependencies, uint32_t inline_names, const open_token &open)
 {
-    uint64_t sheet[4] = {0, 0, untouched, untouched};
-    const uint64_t answer = doortumble_sheet(stream, stream_len, 0, uint32_t(stream_len), dependencies, inline_names, sheet, 4);
+    uint64_t sheet[6] = {0, 0, untouched, untouched, untouched, untouched};
+    uint32_t table[3] = {7, 7, 7};
+    const uint32_t last = 1 + open.announced;
+    const uint64_t answer =
+        doortumble_body(stream, stream_len, 0, uint32_t(stream_len), dependencies, inline_names, sheet, 6, table, 3);
     const doortumble_token token = doortumble_token_at(sheet, 0);
-    const doortumble_token close = doortumble_token_at(sheet, 1);
+    const doortumble_token close = doortumble_token_at(sheet, last);
 
-    return !doortumble_refused(answer) && doortumble_count(answer) == 2 && token.kind == DOORTUMBLE_KIND_OPEN && token.place == 0 &&
+    return !doortumble_refused(answer) && doortumble_count(answer) == last + 1 && token.kind == DOORTUMBLE_KIND_OPEN && token.place == 0 &&
            token.length == open.length && token.number == open.number && token.flag == open.flag &&
            token.announced == open.announced && token.name == open.name && doortumble_has_name(token) &&
-           close.kind == DOORTUMBLE_KIND_CLOSE_EMPTY && close.place == open.length && close.length == 1 && close.number == 0 &&
-           close.flag == 0 && close.announced == 0 && close.name == 0 && !doortumble_has_name(close);
+           close.kind == DOORTUMBLE_KIND_CLOSE_EMPTY && close.place == stream_len - 2 && close.length == 1 && close.number == 0 &&
+           close.flag == 0 && close.announced == 0 && close.name == 0 && !doortumble_has_name(close) &&
+           table[0] == 0 && table[last] == 1;
 }
 
 bool nothing_lent()
@@ -62,10 +66,9 @@ bool nothing_lent()
     so &= refuses("no bytes have no file header", doortumble_file_header(nullptr, 0, nullptr, 0), DOORTUMBLE_WRONG_FILE, 0);
     so &= refuses("no bytes have no chunk header", doortumble_chunk_header(nullptr, 0, nullptr, 0), DOORTUMBLE_WRONG_LENGTH, 0);
     so &= refuses("no bytes are no chunk", doortumble_list(nullptr, 0, 1, nullptr, 0), DOORTUMBLE_WRONG_LENGTH, 0);
-    so &= counts("no bytes have no token", doortumble_sheet(nullptr, 0, 0, 0, 0, 0, nullptr, 0), 0);
-    so &= refuses("no bytes are no body", doortumble_owners(nullptr, 0, 0, 0, 0, 0, nullptr, 0), DOORTUMBLE_UNFINISHED, 0);
-    so &= refuses("a byte is missing", doortumble_sheet(nullptr, 0, 0, 1, 0, 0, nullptr, 0), DOORTUMBLE_TOO_FEW_BYTES, 0);
-    so &= refuses("the start lies past the end", doortumble_owners(nullptr, 0, 1, 0, 0, 0, nullptr, 0), DOORTUMBLE_PAST_END, 1);
+    so &= refuses("no bytes are no body", doortumble_body(nullptr, 0, 0, 0, 0, 0, nullptr, 0, nullptr, 0), DOORTUMBLE_UNFINISHED, 0);
+    so &= refuses("a byte is missing", doortumble_body(nullptr, 0, 0, 1, 0, 0, nullptr, 0, nullptr, 0), DOORTUMBLE_TOO_FEW_BYTES, 0);
+    so &= refuses("the start lies past the end", doortumble_body(nullptr, 0, 1, 0, 0, 0, nullptr, 0, nullptr, 0), DOORTUMBLE_PAST_END, 1);
     return so;
 }
 
@@ -76,19 +79,21 @@ bool empty_element()
     uint32_t table[3] = {7, 7, 7};
     bool so = true;
 
-    so &= refuses("a sheet of a word a token is short", doortumble_sheet(stream, 11, 0, 11, 0, 0, sheet, 2), DOORTUMBLE_NO_ROOM, 4);
-    so &= refuses("a sheet of three words is short", doortumble_sheet(stream, 11, 0, 11, 0, 0, sheet, 3), DOORTUMBLE_NO_ROOM, 4);
-    so &= refuses("a table of no words is short", doortumble_owners(stream, 11, 0, 11, 0, 0, nullptr, 0), DOORTUMBLE_NO_ROOM, 2);
-    so &= holds("a refusal leaves the sheet", sheet[0] == untouched && sheet[1] == untouched && sheet[2] == untouched);
-    so &= counts("two tokens", doortumble_sheet(stream, 11, 0, 11, 0, 0, sheet, 5), 2);
+    so &= refuses("nothing lent asks for the sheet", doortumble_body(stream, 11, 0, 11, 0, 0, nullptr, 0, nullptr, 0), DOORTUMBLE_NO_ROOM, 4);
+    so &= refuses("a sheet of three words is short", doortumble_body(stream, 11, 0, 11, 0, 0, sheet, 3, table, 3), DOORTUMBLE_NO_ROOM, 4);
+    so &= refuses("the sheet's room is asked for first", doortumble_body(stream, 11, 0, 11, 0, 0, sheet, 3, table, 1), DOORTUMBLE_NO_ROOM, 4);
+    so &= refuses("a table of a word is short", doortumble_body(stream, 11, 0, 11, 0, 0, sheet, 4, table, 1), DOORTUMBLE_NO_ROOM, 2);
+    so &= refuses("a table of no words is short", doortumble_body(stream, 11, 0, 11, 0, 0, sheet, 5, nullptr, 0), DOORTUMBLE_NO_ROOM, 2);
+    so &= holds("a refusal leaves the sheet", sheet[0] == untouched && sheet[1] == untouched && sheet[2] == untouched && sheet[3] == untouched);
+    so &= holds("and the table", table[0] == 7 && table[1] == 7 && table[2] == 7);
+    so &= counts("two tokens", doortumble_body(stream, 11, 0, 11, 0, 0, sheet, 5, table, 3), 2);
     so &= holds("the first token's words", sheet[0] == 0x2000000024000000 && sheet[1] == 0x0000020000000000);
     so &= holds("the second token's words", sheet[2] == 0x4000480004000000 && sheet[3] == 0);
     so &= holds("a word past the sheet stays", sheet[4] == untouched);
-    so &= counts("two owners", doortumble_owners(stream, 11, 0, 11, 0, 0, table, 3), 2);
     so &= holds("the owners", !doortumble_has_owner(table[0]) && doortumble_has_owner(table[1]) && doortumble_owner(table[1]) == 0);
     so &= holds("a word past the table stays", table[2] == 7);
-    so &= counts("a start past the open token, one byte long", doortumble_sheet(stream, 11, 9, 1, 0, 0, sheet, 2), 1);
-    so &= holds("that byte is the close token", sheet[0] == 0x4000480004000000 && sheet[1] == 0);
+    so &= refuses("from the close token on it is no body", doortumble_body(stream, 11, 9, 1, 0, 0, sheet, 5, table, 3), DOORTUMBLE_NO_BODY, 0);
+    so &= refuses("without it the body is unfinished", doortumble_body(stream, 11, 0, 9, 0, 0, sheet, 5, table, 3), DOORTUMBLE_UNFINISHED, 1);
     return so;
 }
 
@@ -128,15 +133,16 @@ bool announced()
     // An open token that announces attributes, an attribute, close empty; and one that announces none before the same.
     const uint8_t stream[] = {0x41, 0, 0, 0, 0, 0x00, 0x02, 0, 0, 0, 0, 0, 0, 0x06, 0x00, 0x02, 0, 0, 0x03};
     const uint8_t plain[] = {0x01, 0, 0, 0, 0, 0x00, 0x02, 0, 0, 0x06, 0x00, 0x02, 0, 0, 0x03};
+    uint64_t sheet[12] = {untouched};
     uint32_t table[4] = {7, 7, 7, 7};
     bool so = true;
 
-    so &= refuses("an attribute that was not announced", doortumble_owners(plain, sizeof plain, 0, sizeof plain, 0, 0, table, 4),
+    so &= refuses("an attribute that was not announced", doortumble_body(plain, sizeof plain, 0, sizeof plain, 0, 0, sheet, 12, table, 4),
                   DOORTUMBLE_DISAGREE, 1);
-    so &= holds("a refusal leaves the table", table[0] == 7 && table[1] == 7 && table[2] == 7);
+    so &= holds("a refusal leaves sheet and table", sheet[0] == untouched && table[0] == 7 && table[1] == 7 && table[2] == 7);
     so &= holds("its place is a token", doortumble_place_is(DOORTUMBLE_DISAGREE)[0] == 't');
-    so &= refuses("what is announced may come", doortumble_owners(stream, 13, 0, 13, 0, 0, table, 4), DOORTUMBLE_UNFINISHED, 1);
-    so &= counts("announced and present", doortumble_owners(stream, sizeof stream, 0, sizeof stream, 0, 0, table, 4), 3);
+    so &= refuses("what is announced may come", doortumble_body(stream, 13, 0, 13, 0, 0, sheet, 12, table, 4), DOORTUMBLE_UNFINISHED, 1);
+    so &= counts("announced and present", doortumble_body(stream, sizeof stream, 0, sizeof stream, 0, 0, sheet, 12, table, 4), 3);
     so &= holds("the owner is the open token", table[0] == 0 && table[1] == 1 && table[2] == 1 && table[3] == 7);
     return so;
 }
@@ -147,14 +153,15 @@ bool pairs()
     const uint8_t stream[] = {0x0A, 0x00, 0x02, 0, 0, 0x0B, 0, 0,                    //
                               0x01, 0, 0, 0, 0, 0x00, 0x02, 0, 0, 0x03,              //
                               0x0A, 0x00, 0x02, 0, 0, 0x0B, 0, 0};
+    uint64_t sheet[12] = {untouched};
     uint32_t table[7] = {7, 7, 7, 7, 7, 7, 7};
     bool so = true;
 
-    so &= refuses("a target alone is unfinished", doortumble_owners(stream, 5, 0, 5, 0, 0, table, 7), DOORTUMBLE_UNFINISHED, 1);
-    so &= refuses("a pair alone is unfinished", doortumble_owners(stream, 8, 0, 8, 0, 0, table, 7), DOORTUMBLE_UNFINISHED, 2);
-    so &= refuses("data alone is no body", doortumble_owners(stream, 8, 5, 3, 0, 0, table, 7), DOORTUMBLE_NO_BODY, 0);
-    so &= holds("a refusal leaves the table", table[0] == 7 && table[1] == 7);
-    so &= counts("a pair on either side", doortumble_owners(stream, sizeof stream, 0, sizeof stream, 0, 0, table, 7), 6);
+    so &= refuses("a target alone is unfinished", doortumble_body(stream, 5, 0, 5, 0, 0, sheet, 12, table, 7), DOORTUMBLE_UNFINISHED, 1);
+    so &= refuses("a pair alone is unfinished", doortumble_body(stream, 8, 0, 8, 0, 0, sheet, 12, table, 7), DOORTUMBLE_UNFINISHED, 2);
+    so &= refuses("data alone is no body", doortumble_body(stream, 8, 5, 3, 0, 0, sheet, 12, table, 7), DOORTUMBLE_NO_BODY, 0);
+    so &= holds("a refusal leaves sheet and table", sheet[0] == untouched && table[0] == 7 && table[1] == 7);
+    so &= counts("a pair on either side", doortumble_body(stream, sizeof stream, 0, sizeof stream, 0, 0, sheet, 12, table, 7), 6);
     so &= holds("the pairs have no owner", table[0] == 0 && table[1] == 0 && table[4] == 0 && table[5] == 0);
     so &= holds("the root is token 2", table[2] == 0 && doortumble_has_owner(table[3]) && doortumble_owner(table[3]) == 2);
     so &= holds("a word past the table stays", table[6] == 7);
@@ -166,8 +173,8 @@ bool flags()
     const uint8_t none[] = {0x01, 0xFF, 0xFF, 0, 0, 0, 0, 0x00, 0x02, 0, 0, 0x03, 0x00};
     const uint8_t zero[] = {0x01, 0x00, 0x00, 0, 0, 0, 0, 0x00, 0x02, 0, 0, 0x03, 0x00};
     const uint8_t name[] = {0x01, 0, 0, 0, 0, 0x41, 0x10, 0x02, 0, 0x41, 0, 0x42, 0, 0, 0, 0x03, 0x00};
-    const uint8_t both[] = {0x41, 0xFE, 0xFF, 0, 0, 0, 0, 0xFE, 0xFF, 0xFF, 0xFF, 0, 0, 0, 0, 0x03, 0x00};
-    const uint8_t first[] = {0x41, 0, 0, 0, 0, 0, 0, 0, 0, 0, 0, 0, 0, 0x03, 0x00};
+    const uint8_t both[] = {0x41, 0xFE, 0xFF, 0, 0, 0, 0, 0xFE, 0xFF, 0xFF, 0xFF, 0, 0, 0, 0, 0x06, 0, 0x02, 0, 0, 0x03, 0x00};
+    const uint8_t first[] = {0x41, 0, 0, 0, 0, 0, 0, 0, 0, 0, 0, 0, 0, 0x06, 0, 0x02, 0, 0, 0x03, 0x00};
     bool so = true;
 
     so &= holds("dependency FFFF is none", opens(none, sizeof none, 1, 0, {11, 0, 0, 0, 512}));

@@ -1,7 +1,7 @@
 // records: print the records of a Windows event log, a whole file or one chunk of it, with their tokens and whom each belongs to.
 //
-// The example of the C calls, made to be copied: it lends buffers that are always enough, reads each live record by its owner
-// table and its sheet, and keeps three things apart that must not be mixed up: a log with something unreadable in it, an input
+// The example of the C calls, made to be copied: it lends buffers that are always enough, reads each live record, its tokens and
+// their owners, by one call, and keeps three things apart that must not be mixed up: a log with something unreadable in it, an input
 // that is no log, and a buffer that was lent too short, which is a bug of the caller.
 #include <errno.h>
 #include <inttypes.h>
@@ -261,13 +261,16 @@ static void print_token(const struct job *job, uint64_t n)
 
 // -------------------------------------------------------------------------------------------------------------- records
 
-// A refused answer for a record's stream: a line of the listing, or our own bug.
-static enum status print_unread(const char *what, size_t words, uint64_t answer)
+// A refused answer for a record's stream: a line of the listing, or our own bug. The sheet's room is asked for first, and its words
+// are twice as many as the tokens; so where it has them, the table is too short.
+static enum status print_unread(uint64_t answer)
 {
     unsigned number = doortumble_number(answer);
 
+    if (number == DOORTUMBLE_NO_ROOM && doortumble_place(answer) > SHEET_LEN)
+        return tell_short_buffer("sheet", SHEET_LEN, answer);
     if (number == DOORTUMBLE_NO_ROOM)
-        return tell_short_buffer(what, words, answer);
+        return tell_short_buffer("owner table", OWNERS_LEN, answer);
     fputs("  ", stdout);
     print_refusal(number, doortumble_place(answer), doortumble_why(number));
     return SOME_REFUSED;
@@ -279,16 +282,12 @@ static enum status print_tokens(struct job *job, const uint8_t *chunk, doortumbl
 {
     uint32_t start = doortumble_payload_start(row);
     uint32_t length = doortumble_payload_length(row);
-    uint64_t answer;
+    uint64_t answer = doortumble_body(chunk, DOORTUMBLE_CHUNK_BYTES, start, length, 0, 0, job->sheet, SHEET_LEN, job->owners,
+                                      OWNERS_LEN);
     uint64_t n;
 
-    // The owner table first: it is refused wherever the sheet is, and also where the tokens are no event body.
-    answer = doortumble_owners(chunk, DOORTUMBLE_CHUNK_BYTES, start, length, 0, 0, job->owners, OWNERS_LEN);
     if (doortumble_refused(answer))
-        return print_unread("owner table", OWNERS_LEN, answer);
-    answer = doortumble_sheet(chunk, DOORTUMBLE_CHUNK_BYTES, start, length, 0, 0, job->sheet, SHEET_LEN);
-    if (doortumble_refused(answer))
-        return print_unread("sheet", SHEET_LEN, answer);
+        return print_unread(answer);
     for (n = 0; n < doortumble_count(answer); n++)
         print_token(job, n);
     return ALL_READ;

@@ -1,21 +1,21 @@
 // doortumble.h: read Windows event logs from C (C99 or later) or C++.
 //
-// Eight calls of the reader, and the merge, over what the caller lends:
+// Seven calls of the reader, and the merge, over what the caller lends:
 //
 //   doortumble_list_file      the records of a whole log file, six words a row
 //   doortumble_list           the records of a chunk, five words a row
-//   doortumble_sheet          the tokens of a record's stream, two words a token
-//   doortumble_owners         which token each token belongs to, where the stream is one event body
-//   doortumble_widen          that sheet from a kept one of the old layout, which has one word a token
+//   doortumble_body           the tokens of a record's stream, two words a token, and which token each belongs to, where the
+//                             stream is one event body
+//   doortumble_widen          a stream's sheet from a kept one of the old layout, which has one word a token
 //   doortumble_narrow         a sheet of the old layout from one of two words a token
 //   doortumble_file_header    the numbers of a log file's header, and whether its checksum is right
 //   doortumble_chunk_header   the numbers of a chunk's header, and whether its two checksums are right
 //   doortumble_merge          two controllers' lists of writes merged, three words a row (an archive of its own)
 //
-// To read a record, hand its row to doortumble_owners and doortumble_sheet like this: the stream is the WHOLE chunk, since names
-// are offsets in the chunk (of a file: the 65,536 bytes from the row's chunk on); start and length are doortumble_payload_start
-// and doortumble_payload_length of the row; both flags are 0, since the open tokens of a record carry no dependency and its
-// names are not inline.
+// To read a record, hand its row to doortumble_body like this: the stream is the WHOLE chunk, since names are offsets in the chunk
+// (of a file: the 65,536 bytes from the row's chunk on); start and length are doortumble_payload_start and
+// doortumble_payload_length of the row; both flags are 0, since the open tokens of a record carry no dependency and its names are
+// not inline.
 // examples/records.c does just that.
 //
 // Of every call:
@@ -398,9 +398,11 @@ static inline doortumble_chunk_header_fields doortumble_chunk_header_of(const ui
     return fields;
 }
 
-// ------------------------------------------------------------------------------------------------------------ the sheet
+// ------------------------------------------------------------------------------------------------------------- the body
 
-// Read the tokens of a stream, whether or not they form an event body.
+// Read a stream as one event body: its tokens, and which token each belongs to. A body is one element or one instance, its root;
+// before the root a PI target with its data may stand, and one after. An element has attributes exactly where its open token
+// announces them.
 //
 //   stream, stream_len   the bytes that offsets count in, at most 65,536: for a record its whole chunk
 //   start, length        where in the stream the first token is, and for how many bytes on a token may begin. The last token
@@ -410,15 +412,18 @@ static inline doortumble_chunk_header_fields doortumble_chunk_header_of(const ui
 //   inline_names         not 0: names stand in the stream itself; 0: names are offsets, as in a chunk
 //   sheet, sheet_len     lent for the sheet, and its length in words; DOORTUMBLE_MOST_TOKENS * DOORTUMBLE_SHEET_WORDS is always
 //                        enough
+//   table, table_len     lent for the owner table, and its length in words; DOORTUMBLE_MOST_TOKENS is always enough. Sheet and
+//                        table must not overlap
 //
-// Answer: how many tokens there are, with two words for each in the sheet, or a refusal: 1, then the first that the walk meets
-// (2, 3, 7 to 12), then 16 where the sheet is too short (its place is the words needed, which are twice as many as the tokens, so
-// a call with 0 words asks for them).
+// Answer: how many tokens there are, with two words for each in the sheet and one in the table, or a refusal: 1, then the first
+// that the walk meets (2, 3, 7 to 12), then 13, 14, 15 or 20 where the tokens are no event body, then 16 where the sheet is too
+// short (its place is the words needed, which are twice as many as the tokens), then 16 where the table is (its place is the
+// tokens). So a stream that is no body is refused so whatever is lent, and a call with 0 words asks for the words of the sheet.
 //
-// A refusal leaves the sheet as it was; words past the last token's stay. Nothing is kept or allocated, at most 1 MiB of stack
-// is needed, and a null pointer with length 0 is allowed.
-uint64_t doortumble_sheet(const uint8_t *stream, size_t stream_len, uint32_t start, uint32_t length,
-                          uint32_t dependencies, uint32_t inline_names, uint64_t *sheet, size_t sheet_len);
+// A refusal leaves the sheet and the table as they were; words past the last token's stay in both. Nothing is kept or allocated,
+// at most 1 MiB of stack is needed, and a null pointer with length 0 is allowed.
+uint64_t doortumble_body(const uint8_t *stream, size_t stream_len, uint32_t start, uint32_t length, uint32_t dependencies,
+                         uint32_t inline_names, uint64_t *sheet, size_t sheet_len, uint32_t *table, size_t table_len);
 
 // The kinds of tokens, with their bytes in the stream.
 enum {
@@ -469,7 +474,7 @@ typedef struct doortumble_token {
     uint32_t name;      // offset of its name in the stream, see doortumble_has_name; 0 where it has none
 } doortumble_token;
 
-// Token n, counted from 0, of the sheet that doortumble_sheet wrote.
+// Token n, counted from 0, of a sheet.
 static inline doortumble_token doortumble_token_at(const uint64_t *sheet, uint64_t n)
 {
     const uint64_t *words = sheet + n * DOORTUMBLE_SHEET_WORDS;
@@ -497,50 +502,6 @@ static inline int doortumble_has_name(doortumble_token token)
            token.kind == DOORTUMBLE_KIND_ENTITY_REF || token.kind == DOORTUMBLE_KIND_PI_TARGET;
 }
 
-// ------------------------------------------------------------------------------------------------------ the kept sheets
-
-// Make the sheet of a stream, two words a token, from a kept one of the old layout, which has one. The old sheet must be exactly
-// that of the stream, read with this start, length and these flags: whatever was changed in it since is found.
-//
-//   stream to inline_names   as for doortumble_sheet, and as when the old sheet was made
-//   old, old_len             the old sheet, and its length in words, which is the count of its tokens
-//   sheet, sheet_len         lent for the sheet, and its length in words: twice old_len is enough. It must not overlap the old one
-//
-// Answer: how many tokens there are, or a refusal: those of doortumble_sheet, and before 16 also 19 where the old sheet is not
-// the stream's. 19's place is the number of the first word, from 0, that is not the stream's; where the sheet ends too soon, how
-// many words it has; where it goes on too long, how many it should have.
-//
-// A refusal leaves the sheet as it was; words past the last token's stay, and the old sheet is never written. Nothing is kept or
-// allocated, at most 1 MiB of stack is needed, and a null pointer with length 0 is allowed.
-uint64_t doortumble_widen(const uint8_t *stream, size_t stream_len, uint32_t start, uint32_t length, uint32_t dependencies,
-                          uint32_t inline_names, const uint64_t *old, size_t old_len, uint64_t *sheet, size_t sheet_len);
-
-// The same the other way: make the sheet of the old layout, one word a token, from one of two words a token, which must be
-// exactly the stream's. What doortumble_widen wrote gives equal words back, and the other way round.
-//
-//   sheet, sheet_len   the sheet, and its length in words, which is twice the count of its tokens: no words behind them
-//   old, old_len       lent for the old sheet, and its length in words: half of sheet_len is enough. It must not overlap the sheet
-uint64_t doortumble_narrow(const uint8_t *stream, size_t stream_len, uint32_t start, uint32_t length, uint32_t dependencies,
-                           uint32_t inline_names, const uint64_t *sheet, size_t sheet_len, uint64_t *old, size_t old_len);
-
-// ------------------------------------------------------------------------------------------------------------ the owners
-
-// Read a stream as one event body, and tell of each token which token it belongs to. The tokens are those of the sheet, in the
-// same order. A body is one element or one instance, its root; before the root a PI target with its data may stand, and one after.
-// An element has attributes exactly where its open token announces them.
-//
-//   stream to inline_names   as for doortumble_sheet
-//   table, table_len         lent for the owner table, and its length in words; DOORTUMBLE_MOST_TOKENS is always enough
-//
-// Answer: how many tokens there are, with a word for each in the table, or a refusal: those of doortumble_sheet, and before 16
-// also 13, 14, 15 or 20 where the tokens are no event body. 16 comes last: a stream that is refused otherwise is refused so for any
-// table, a null one too.
-//
-// A refusal leaves the table as it was; words past the last token's stay. Nothing is kept or allocated, at most 1 MiB of stack
-// is needed, and a null pointer with length 0 is allowed.
-uint64_t doortumble_owners(const uint8_t *stream, size_t stream_len, uint32_t start, uint32_t length,
-                           uint32_t dependencies, uint32_t inline_names, uint32_t *table, size_t table_len);
-
 // A table's word is the owner's number plus 1, or 0 where the token has no owner: the root's open token or the instance, and a PI
 // target and its data before or after the root. What stands in an attribute belongs to the attribute's token; all else in an
 // element, its close tokens too, to its open token. An owner's number is always less than the number of what it owns.
@@ -556,6 +517,32 @@ static inline uint32_t doortumble_owner(uint32_t word)
 {
     return word - 1;
 }
+
+// ------------------------------------------------------------------------------------------------------ the kept sheets
+
+// Make the sheet of a stream, two words a token, from a kept one of the old layout, which has one. The old sheet must be exactly
+// that of the stream, read with this start, length and these flags: whatever was changed in it since is found.
+//
+//   stream to inline_names   as for doortumble_body, and as when the old sheet was made; the stream need not be a body
+//   old, old_len             the old sheet, and its length in words, which is the count of its tokens
+//   sheet, sheet_len         lent for the sheet, and its length in words: twice old_len is enough. It must not overlap the old one
+//
+// Answer: how many tokens there are, or a refusal: 1, then the first that the walk meets (2, 3, 7 to 12), then 19 where the old
+// sheet is not the stream's, then 16 where the words lent are too few. 19's place is the number of the first word, from 0, that
+// is not the stream's; where the sheet ends too soon, how many words it has; where it goes on too long, how many it should have.
+//
+// A refusal leaves the sheet as it was; words past the last token's stay, and the old sheet is never written. Nothing is kept or
+// allocated, at most 1 MiB of stack is needed, and a null pointer with length 0 is allowed.
+uint64_t doortumble_widen(const uint8_t *stream, size_t stream_len, uint32_t start, uint32_t length, uint32_t dependencies,
+                          uint32_t inline_names, const uint64_t *old, size_t old_len, uint64_t *sheet, size_t sheet_len);
+
+// The same the other way: make the sheet of the old layout, one word a token, from one of two words a token, which must be
+// exactly the stream's. What doortumble_widen wrote gives equal words back, and the other way round.
+//
+//   sheet, sheet_len   the sheet, and its length in words, which is twice the count of its tokens: no words behind them
+//   old, old_len       lent for the old sheet, and its length in words: half of sheet_len is enough. It must not overlap the sheet
+uint64_t doortumble_narrow(const uint8_t *stream, size_t stream_len, uint32_t start, uint32_t length, uint32_t dependencies,
+                           uint32_t inline_names, const uint64_t *sheet, size_t sheet_len, uint64_t *old, size_t old_len);
 
 // ------------------------------------------------------------------------------------------------------------ the merge
 

@@ -1,4 +1,4 @@
-//! Modes O, C and K through the oracle: document 01's samples, with the sheet's words as document 02's request P2 has them, the order of
+//! Modes O, C, B and K through the oracle: document 01's samples, with the sheet's words as document 02's request P2 has them, the order of
 //! refusals, the packed words, and the lent words.
 
 mod common;
@@ -16,11 +16,28 @@ fn owners(text: &str) -> String {
     answers(&case(b'O', 0, 0, data.len() as u32, &data))
 }
 
-/// A C call on a whole stream; flag 4: the owner call.
-fn call(flags: u8, room: u32, text: &str) -> String {
-    let stream = hex(text);
-    let data = [&room.to_le_bytes(), &stream[..]].concat();
-    answers(&case(b'C', flags, 0, stream.len() as u32, &data))
+/// A call on a whole stream that is lent so many words of each kind.
+fn lending(mode: u8, flags: u8, rooms: &[u32], text: &str) -> String {
+    answers(&common::lending(mode, flags, rooms, &hex(text)))
+}
+
+/// The sheet alone of a whole stream.
+fn alone(flags: u8, room: u32, text: &str) -> String {
+    lending(b'C', flags, &[room], text)
+}
+
+/// The joined call on a whole stream.
+fn joined(rooms: [u32; 2], text: &str) -> String {
+    lending(b'B', 0, &rooms, text)
+}
+
+/// What the joined call answers where it refuses: so many words are lent, and all are kept.
+fn kept(number: u64, place: u64, rooms: [u32; 2]) -> String {
+    let word = 1 << 63 | number << 56 | place;
+    let [sheet, table] = rooms.map(|room| room as usize);
+    let sheet = " ffffffffffffffff".repeat(sheet);
+    let table = " ffffffff".repeat(table);
+    format!("answer {word:016x}\nsheet{sheet}\ntable{table}\n")
 }
 
 const ELEMENT: &str = "01 00000000 00020000 03 00";
@@ -31,9 +48,9 @@ fn empty_streams() {
     assert_eq!(owners(""), "refused 15 0\n");
     assert_eq!(answers(&case(b'O', 0, 0, 1, &[])), "refused 3 0\n");
     assert_eq!(answers(&case(b'O', 0, 1, 0, &[])), "refused 2 1\n");
-    // The sheet skips the grammar.
-    assert_eq!(call(0, 0, ""), "answer 0000000000000000\nwords\n");
-    assert_eq!(call(4, 0, ""), "answer 8f00000000000000\nwords\n");
+    // The sheet alone skips the grammar.
+    assert_eq!(alone(0, 0, ""), "count 0\nwords\n");
+    assert_eq!(joined([0, 0], ""), kept(15, 0, [0, 0]));
 }
 
 #[test]
@@ -89,13 +106,11 @@ fn pairs_around_the_root() {
     assert_eq!(owners(&format!("{both} {target}")), "refused 13 6\n");
     let instance = format!("{pair} 0F 01 01 00 {INSTANCE} {pair} 00");
     assert_eq!(owners(&instance), "owners 0 0 0 0 0\n");
-    // The C call: 16 after the grammar's refusals.
-    assert_eq!(call(4, 0, pair), "answer 8f00000000000002\nwords\n");
-    let short = "answer 9000000000000006\nwords ffffffff\n";
-    assert_eq!(call(4, 1, &both), short);
-    let words = "00000000 00000000 00000000 00000003 00000000 00000000 ffffffff";
-    let whole = format!("answer 0000000000000006\nwords {words}\n");
-    assert_eq!(call(4, 7, &both), whole);
+    // The joined call: 16 after the grammar's refusals.
+    assert_eq!(joined([0, 0], pair), kept(15, 2, [0, 0]));
+    assert_eq!(joined([12, 1], &both), kept(16, 6, [12, 1]));
+    let table = "table 00000000 00000000 00000000 00000003 00000000 00000000 ffffffff\n";
+    assert!(joined([13, 7], &both).ends_with(table));
 }
 
 #[test]
@@ -105,14 +120,16 @@ fn order_of_refusals() {
     assert_eq!(answers(&case(b'O', 0, 0, 65537, &long)), "refused 1 0\n");
     assert_eq!(owners("04 10"), "refused 9 2\n");
     assert_eq!(owners("04 00 10"), "refused 13 0\n");
-    assert_eq!(call(4, 0, "04 10"), "answer 8900000000000002\nwords\n");
-    assert_eq!(call(4, 0, "04"), "answer 8d00000000000000\nwords\n");
-    assert_eq!(call(0, 0, "04"), "answer 9000000000000002\nwords\n");
-    let data = [&9_u32.to_le_bytes()[..], &long].concat();
-    let long = answers(&case(b'C', 0, u32::MAX, 0, &data));
-    assert!(long.starts_with("answer 8100000000000000\nwords ffffffffffffffff "));
-    let far = answers(&case(b'C', 4, u32::MAX, 0, &[0; 4]));
-    assert_eq!(far, "answer 82000000ffffffff\nwords\n");
+    assert_eq!(joined([0, 0], "04 10"), kept(9, 2, [0, 0]));
+    assert_eq!(joined([0, 0], "04"), kept(13, 0, [0, 0]));
+    assert_eq!(alone(0, 0, "04"), "refused 16 2\nwords\n");
+    let data = [&[9_u32, 9].map(u32::to_le_bytes).concat()[..], &long].concat();
+    let refused = answers(&case(b'B', 0, u32::MAX, 0, &data));
+    assert_eq!(refused, kept(1, 0, [9, 9]));
+    let refused = answers(&case(b'C', 0, u32::MAX, 0, &data));
+    assert!(refused.starts_with("refused 1 0\nwords ffffffffffffffff "));
+    let far = answers(&case(b'B', 0, u32::MAX, 0, &[0; 8]));
+    assert_eq!(far, kept(2, 0xffff_ffff, [0, 0]));
 }
 
 #[test]
@@ -131,25 +148,27 @@ fn levels() {
 #[test]
 fn sheets() {
     let words = "2000000024000000 0000020000000000 4000480004000000 0000000000000000";
-    let enough = format!("answer 0000000000000002\nwords {words}\n");
-    assert_eq!(call(0, 4, ELEMENT), enough);
-    let more = format!("answer 0000000000000002\nwords {words} ffffffffffffffff\n");
-    assert_eq!(call(0, 5, ELEMENT), more);
+    let enough = format!("count 2\nwords {words}\n");
+    assert_eq!(alone(0, 4, ELEMENT), enough);
+    // A flag that the mode does not name is passed over.
+    assert_eq!(alone(4, 4, ELEMENT), enough);
+    let more = format!("count 2\nwords {words} ffffffffffffffff\n");
+    assert_eq!(alone(0, 5, ELEMENT), more);
     // 16 counts two words a token, and is answered for every room below that.
     for room in 0..4 {
         let ones = " ffffffffffffffff".repeat(room);
-        let fewer = format!("answer 9000000000000004\nwords{ones}\n");
-        assert_eq!(call(0, room as u32, ELEMENT), fewer);
+        let fewer = format!("refused 16 4\nwords{ones}\n");
+        assert_eq!(alone(0, room as u32, ELEMENT), fewer);
     }
     // With a dependency: 11 bytes, none, 0 and 7.
-    let element = |dependency| call(1, 4, &format!("01 {dependency} 00000000 00020000 03 00"));
+    let element = |dependency| alone(1, 4, &format!("01 {dependency} 00000000 00020000 03 00"));
     for (dependency, word) in [
         ("FFFF", "200000002c000000"),
         ("0000", "200000002c000200"),
         ("0700", "200000002c001e00"),
     ] {
         let words = format!("{word} 0000020000000000 4000580004000000 0000000000000000");
-        let sheet = format!("answer 0000000000000002\nwords {words}\n");
+        let sheet = format!("count 2\nwords {words}\n");
         assert_eq!(element(dependency), sheet);
     }
 }
@@ -158,8 +177,8 @@ fn sheets() {
 fn sheet(flags: u8, text: &str, words: &[u64]) {
     let count = words.len() / 2;
     let lines: String = words.iter().map(|word| format!(" {word:016x}")).collect();
-    let answer = format!("answer {count:016x}\nwords{lines}\n");
-    assert_eq!(call(flags, words.len() as u32, text), answer);
+    let answer = format!("count {count}\nwords{lines}\n");
+    assert_eq!(alone(flags, words.len() as u32, text), answer);
 }
 
 #[test]
@@ -210,17 +229,42 @@ fn every_field_of_a_sheet() {
     sheet(3, text, &[open | 13 << 26 | 1 << 9, 7 << 32]);
 }
 
+/// Document 02's request P8: "16 for the sheet, then 16 for the table, after the grammar's".
 #[test]
-fn owner_calls() {
-    let enough = "answer 0000000000000002\nwords 00000000 00000001\n";
-    assert_eq!(call(4, 2, ELEMENT), enough);
-    let more = "answer 0000000000000002\nwords 00000000 00000001 ffffffff ffffffff\n";
-    assert_eq!(call(4, 4, ELEMENT), more);
-    let fewer = "answer 9000000000000002\nwords ffffffff\n";
-    assert_eq!(call(4, 1, ELEMENT), fewer);
-    assert_eq!(call(4, 0, ELEMENT), "answer 9000000000000002\nwords\n");
-    let refused = "answer 8d00000000000000\nwords ffffffff ffffffff\n";
-    assert_eq!(call(4, 2, "03"), refused);
+fn joined_calls() {
+    let sheet = "2000000024000000 0000020000000000 4000480004000000 0000000000000000";
+    let enough = format!("answer 0000000000000002\nsheet {sheet}\ntable 00000000 00000001\n");
+    assert_eq!(joined([4, 2], ELEMENT), enough);
+    let ones = "ffffffffffffffff";
+    let more = format!(
+        "answer 0000000000000002\nsheet {sheet} {ones}\ntable 00000000 00000001 ffffffff\n"
+    );
+    assert_eq!(joined([5, 3], ELEMENT), more);
+    for of_sheet in 0..6 {
+        for of_table in 0..4 {
+            let (rooms, short_sheet) = ([of_sheet, of_table], of_sheet < 4);
+            if short_sheet || of_table < 2 {
+                let needed = if short_sheet { 4 } else { 2 };
+                assert_eq!(joined(rooms, ELEMENT), kept(16, needed, rooms));
+            } else {
+                let answer = joined(rooms, ELEMENT);
+                assert!(answer.starts_with("answer 0000000000000002\nsheet 2000000024000000 "));
+            }
+            assert_eq!(joined(rooms, "03"), kept(13, 0, rooms));
+            assert_eq!(joined(rooms, "10"), kept(9, 1, rooms));
+        }
+    }
+    // Dependencies and inline names, and a flag that the mode does not name.
+    let words = "sheet 200000002c001e00 0000020000000000 4000580004000000 0000000000000000";
+    let text = "01 0700 00000000 00020000 03 00";
+    let table = "table 00000000 00000001";
+    let answer = format!("answer 0000000000000002\n{words}\n{table}\n");
+    assert_eq!(lending(b'B', 1, &[4, 2], text), answer);
+    assert_eq!(lending(b'B', 0xfd, &[4, 2], text), answer);
+    let inline = lending(b'B', 2, &[4, 2], "01 00000000 0000 0000 0000 03");
+    assert!(
+        inline.starts_with("answer 0000000000000002\nsheet 200000002c000000 0000000500000000 ")
+    );
 }
 
 /// More words than 65,536 are never lent: they hold the sheet of 32,768 tokens, and the longest stream has twice as many.
@@ -228,18 +272,20 @@ fn owner_calls() {
 fn most_words() {
     let text = "03".repeat(32768);
     for room in [65536, 65537, u32::MAX] {
-        let sheet = call(0, room, &text);
-        assert!(sheet.starts_with("answer 0000000000008000\nwords 4000000004000000 0000"));
+        let sheet = alone(0, room, &text);
+        assert!(sheet.starts_with("count 32768\nwords 4000000004000000 0000"));
         assert!(sheet.ends_with(" 43fff80004000000 0000000000000000\n"));
         assert_eq!(sheet.split_ascii_whitespace().count(), 3 + 65536);
+        let joined = joined([room, room], ELEMENT);
+        assert_eq!(joined.split_ascii_whitespace().count(), 4 + 2 * 65536);
     }
-    let fewer = call(0, 65535, &text);
-    assert!(fewer.starts_with("answer 9000000000010000\nwords ffffffffffffffff "));
-    let more = call(0, u32::MAX, &"03".repeat(32769));
-    assert!(more.starts_with("answer 9000000000010002\nwords ffffffffffffffff "));
+    let fewer = alone(0, 65535, &text);
+    assert!(fewer.starts_with("refused 16 65536\nwords ffffffffffffffff "));
+    let more = alone(0, u32::MAX, &"03".repeat(32769));
+    assert!(more.starts_with("refused 16 65538\nwords ffffffffffffffff "));
     let text = "03".repeat(65536);
-    let most = call(0, u32::MAX, &text);
-    assert!(most.starts_with("answer 9000000000020000\nwords ffffffffffffffff "));
+    let most = alone(0, u32::MAX, &text);
+    assert!(most.starts_with("refused 16 131072\nwords ffffffffffffffff "));
     assert_eq!(owners(&text), "refused 13 0\n");
 }
 
@@ -322,6 +368,7 @@ fn kept_sheets() {
 fn bad_cases() {
     let bad = [
         case(b'C', 0, 0, 0, &[0; 3]),
+        case(b'B', 0, 0, 0, &[0; 7]),
         case(b'K', 0, 0, 0, &[0; 7]),
         // One word is said to be given, and its last byte is missing.
         case(b'K', 0, 0, 0, &hex("00000000 01000000 11223344556677")),

@@ -4,6 +4,7 @@
 use compare::cases;
 use compare::oracle::batch;
 use compare::oracle::kinds::{ATTRIBUTE, ENTITY_REF, OPEN, PI_TARGET};
+use std::cmp::Ordering;
 use std::collections::BTreeSet;
 
 /// The answers to the first `count` cases of a kind.
@@ -79,12 +80,12 @@ fn told_by_lines(answers: &str) -> BTreeSet<Told> {
     answers.lines().filter_map(of_line).collect()
 }
 
-/// Those that the sheets of mode C hold.
+/// Those that the sheets of the modes C and B hold.
 fn told_by_sheets(answers: &str) -> BTreeSet<Told> {
     let mut all = BTreeSet::new();
     for line in answers.lines() {
         let words: Vec<&str> = line.split(' ').collect();
-        if words[0] != "words" || words.get(1).is_none_or(|word| word.len() != 16) {
+        if !["words", "sheet"].contains(&words[0]) {
             continue;
         }
         for pair in words[1..].as_chunks::<2>().0 {
@@ -151,18 +152,37 @@ fn reaches_soundness(answers: &str) {
     assert_eq!(soundness(answers), all.collect());
 }
 
-/// The sheet call's rooms, by whether they are odd and whether it refused 16.
+/// The rooms of the sheets alone, by whether they are odd and whether 16 was refused.
 fn reached_rooms(answers: &str) -> BTreeSet<(bool, bool)> {
     let lines: Vec<&str> = answers.lines().collect();
     let pairs = lines.windows(2).filter_map(|pair| {
-        let refused = pair[0].starts_with("answer 90");
-        let accepted = pair[0].starts_with("answer 00");
-        let words: Vec<&str> = pair[1].split(' ').collect();
-        let sheet = words.get(1).is_some_and(|word| word.len() == 16);
-        let odd = words.len() % 2 == 0;
-        (sheet && (refused || accepted)).then_some((odd, refused))
+        let refused = pair[0].starts_with("refused 16 ");
+        let words = pair[1].strip_prefix("words")?;
+        let odd = words.split_ascii_whitespace().count() % 2 == 1;
+        (refused || pair[0].starts_with("count ")).then_some((odd, refused))
     });
     pairs.collect()
+}
+
+/// How the joined call's rooms stand to the need, sheet and table, where it comes to that: less, as many, more.
+fn reached_both(answers: &str) -> BTreeSet<[Ordering; 2]> {
+    let lines: Vec<&str> = answers.lines().collect();
+    let of_case = lines.windows(3).filter_map(|lines| {
+        let word = u64::from_str_radix(lines[0].strip_prefix("answer ")?, 16).ok()?;
+        let words =
+            |line: &str, name| Some(line.strip_prefix(name)?.split_ascii_whitespace().count());
+        let rooms = [words(lines[1], "sheet")?, words(lines[2], "table")?];
+        let place = (word & 0xff_ffff_ffff) as usize;
+        let tokens = match (word >> 63, word >> 56 & 0x7f) {
+            (0, _) => place,
+            // The table was too short only if the sheet was not.
+            (_, 16) if rooms[0] < place => place / 2,
+            (_, 16) => place,
+            _ => return None,
+        };
+        Some([rooms[0].cmp(&(2 * tokens)), rooms[1].cmp(&tokens)])
+    });
+    of_case.collect()
 }
 
 #[test]
@@ -184,7 +204,7 @@ fn short_texts() {
     reaches_soundness(&answers);
 }
 
-/// The numbers of refusals in the answers of mode O, and in those of mode C.
+/// The numbers of refusals in lines of their own, as in the modes O and C, and in packed words, as in the modes B and K.
 fn reached_by_bodies(answers: &str) -> (BTreeSet<u8>, BTreeSet<u8>) {
     let (_, tables) = reached(answers);
     let words = answers.lines().filter_map(|line| {
@@ -205,15 +225,17 @@ fn made_body_cases() {
             .filter(|line| line.starts_with(word))
             .count()
     };
-    assert!(count("owners ") > COUNT / 10 && count("answer 0") > COUNT / 10);
+    assert!(count("owners ") > COUNT / 10 && count("count ") > COUNT / 10);
+    assert!(count("answer 0") > COUNT / 20);
     let (tables, words) = reached_by_bodies(&answers);
     for number in [1, 2, 3, 7, 8, 9, 10, 11, 12, 13, 14, 15, 20] {
         assert!(tables.contains(&number), "no refusal {number} in mode O");
-        assert!(words.contains(&number), "no refusal {number} in mode C");
+        assert!(words.contains(&number), "no refusal {number} in mode B");
     }
     assert!(words.contains(&16));
     reaches_names(&told_by_sheets(&answers));
     assert_eq!(reached_rooms(&answers).len(), 4);
+    assert_eq!(reached_both(&answers).len(), 9);
 }
 
 #[test]
@@ -235,15 +257,15 @@ fn made_kept_cases() {
 }
 
 /// So many lists compare/run asks for: all up to four tokens, and with one item for the four of five and six; those up to three also
-/// after a fragment header and with the names that a sheet shows, and those up to two with C calls. The
+/// after a fragment header and with the names that a sheet shows, and those up to two with rooms around the need. The
 /// first of them reach each refusal.
 #[test]
 fn short_lists() {
     let cases = cases::make("lists", 0, usize::MAX).expect("a kind");
-    assert_eq!(cases.count(), 1_981_759);
-    let (tables, words) = reached_by_bodies(&answers("lists", 0, 30_000));
-    assert_eq!(tables, BTreeSet::from([13, 15, 20]));
-    assert_eq!(words, BTreeSet::from([13, 15, 16, 20]));
+    assert_eq!(cases.count(), 1_986_003);
+    let (lines, words) = reached_by_bodies(&answers("lists", 0, 30_000));
+    assert_eq!(lines, BTreeSet::from([13, 15, 16, 20]));
+    assert_eq!(words, lines);
 }
 
 /// A log of one chunk, the C example's sample: as many records as it prints.
@@ -291,10 +313,11 @@ fn stored_cases() {
     reaches_soundness(&answers);
     reaches_names(&told_by_sheets(&answers));
     assert_eq!(reached_rooms(&answers).len(), 4);
+    assert_eq!(reached_both(&answers).len(), 9);
     let (tables, words) = reached_by_bodies(&answers);
     for number in [2, 3, 7, 8, 9, 10, 11, 12, 13, 14, 15, 20] {
         assert!(tables.contains(&number), "no refusal {number} in mode O");
-        assert!(words.contains(&number), "no refusal {number} in mode C");
+        assert!(words.contains(&number), "no refusal {number} in mode B");
     }
     assert!(words.contains(&16));
 }

@@ -2,7 +2,7 @@
 
 mod common;
 
-use common::{both, case, hex};
+use common::{both, case, hex, lending};
 use compare::oracle::tokens::Asked;
 use compare::{EvtxChunkData, ParserSettings, timed};
 use std::sync::Arc;
@@ -118,9 +118,13 @@ fn unlisted_rows() {
     );
     owners(4, &instance("0000 93 00"), "refused 8 18\n", "owners 0\n");
     owners(5, "05 21 0000", "refused 8 2\n", "refused 13 0\n");
-    let sheet = case(b'C', 0, 0, 4, &hex("00000000 05 21 0000"));
-    let refused = "answer 8800000000000002\nwords\n";
-    differs(5, &sheet, refused, "answer 9000000000000002\nwords\n");
+    let unsized_body = hex("05 21 0000");
+    let sheet = lending(b'C', 0, &[0], &unsized_body);
+    differs(5, &sheet, "refused 8 2\nwords\n", "refused 16 2\nwords\n");
+    let joined = lending(b'B', 0, &[0, 0], &unsized_body);
+    let refused = |word: &str| format!("answer {word}\nsheet\ntable\n");
+    let [document, rust] = ["8800000000000002", "8d00000000000000"].map(refused);
+    differs(5, &joined, &document, &rust);
 }
 
 #[test]
@@ -215,9 +219,11 @@ fn row_11_string_table() {
 fn row_14_tokens_before_a_refusal() {
     // The Rust hands the close start on; of the sheet document 01 says that a refusal writes nothing.
     same(&walk("02 10"), "0 1 3\nrefused 9 2\n");
-    let sheet = case(b'C', 0, 0, 2, &hex("01000000 02 10"));
-    let kept = "answer 8900000000000002\nwords ffffffffffffffff\n";
-    same(&sheet, kept);
+    let sheet = lending(b'C', 0, &[1], &hex("02 10"));
+    same(&sheet, "refused 9 2\nwords ffffffffffffffff\n");
+    let joined = lending(b'B', 0, &[1, 1], &hex("02 10"));
+    let kept = "answer 8900000000000002\nsheet ffffffffffffffff\ntable ffffffff\n";
+    same(&joined, kept);
 }
 
 #[test]

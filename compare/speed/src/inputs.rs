@@ -190,7 +190,7 @@ fn long_units() -> Vec<u16> {
 }
 
 /// One element that holds nothing but long texts, each behind these bytes: a string's or CDATA's.
-pub fn long_texts(front: &[u8]) -> Stream {
+fn long_texts(front: &[u8]) -> Stream {
     let mut maker = Maker::new(false, false);
     maker.open(0, false);
     maker.put(&[0x02]);
@@ -200,6 +200,14 @@ pub fn long_texts(front: &[u8]) -> Stream {
     }
     maker.put(&[0x04, 0x00]);
     Stream::whole(maker.bytes, false, false)
+}
+
+pub fn long_strings() -> Stream {
+    long_texts(&[0x05, 0x01])
+}
+
+pub fn long_cdata() -> Stream {
+    long_texts(&[0x07])
 }
 
 /// One element full of empty ones, each with a long inline name.

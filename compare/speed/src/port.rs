@@ -1,5 +1,6 @@
-//! The port's calls (include/doortumble.h), and the one of crates/checksum_call.
+//! The port's calls (include/doortumble.h), and those of crates/checksum_call and crates/sheet_call.
 
+use crate::cases::ROOM;
 use compare::oracle::tokens::Asked;
 use compare::timed::Call;
 
@@ -19,7 +20,7 @@ unsafe extern "C" {
         rows_len: usize,
     ) -> u64;
     fn doortumble_bench_checksum(chunk: *const u8, chunk_len: usize) -> u32;
-    fn doortumble_sheet(
+    fn doortumble_bench_sheet(
         stream: *const u8,
         stream_len: usize,
         start: u32,
@@ -41,13 +42,15 @@ unsafe extern "C" {
         sheet: *mut u64,
         sheet_len: usize,
     ) -> u64;
-    fn doortumble_owners(
+    fn doortumble_body(
         stream: *const u8,
         stream_len: usize,
         start: u32,
         length: u32,
         dependencies: u32,
         inline_names: u32,
+        sheet: *mut u64,
+        sheet_len: usize,
         table: *mut u32,
         table_len: usize,
     ) -> u64;
@@ -103,35 +106,29 @@ pub fn checksum(chunk: &[u8]) -> Call<'_> {
     Box::new(move |_| unsafe { doortumble_bench_checksum(chunk.as_ptr(), chunk.len()).into() })
 }
 
-/// A call on a stream, with words that it is lent.
-type OnStream<W> = unsafe extern "C" fn(*const u8, usize, u32, u32, u32, u32, *mut W, usize) -> u64;
-
-#[inline(always)]
-fn called<W>(call: OnStream<W>, stream: &[u8], asked: Asked, words: *mut W, count: usize) -> u64 {
-    // SAFETY: bytes and words are good for their lengths.
-    unsafe {
-        call(
-            stream.as_ptr(),
-            stream.len(),
-            asked.start as u32,
-            asked.length as u32,
-            u32::from(asked.dependencies),
-            u32::from(asked.inline_names),
-            words,
-            count,
-        )
-    }
+/// A call on a stream, with the words that it is given and lent.
+macro_rules! on_stream {
+    ($call:ident, $stream:ident, $asked:ident, $($words:expr),+) => {
+        // SAFETY: bytes and words are good for their lengths.
+        unsafe {
+            $call(
+                $stream.as_ptr(),
+                $stream.len(),
+                $asked.start as u32,
+                $asked.length as u32,
+                u32::from($asked.dependencies),
+                u32::from($asked.inline_names),
+                $($words),+
+            )
+        }
+    };
 }
 
+/// The library's sheet: the count of tokens, or all ones where it is refused.
 pub fn sheet(stream: &[u8], asked: Asked) -> Call<'_> {
     Box::new(move |sheet| {
-        called(
-            doortumble_sheet,
-            stream,
-            asked,
-            sheet.as_mut_ptr(),
-            sheet.len(),
-        )
+        let (words, room) = (sheet.as_mut_ptr(), sheet.len());
+        on_stream!(doortumble_bench_sheet, stream, asked, words, room)
     })
 }
 
@@ -142,28 +139,18 @@ pub fn widen(stream: &[u8], asked: Asked) -> Call<'_> {
     let first = words.chunks(2).map(|words| words[0] & !(1 << 8));
     let old: Vec<u64> = first.take(count).collect();
     Box::new(move |sheet| {
-        // SAFETY: bytes and words are good for their lengths.
-        unsafe {
-            doortumble_widen(
-                stream.as_ptr(),
-                stream.len(),
-                asked.start as u32,
-                asked.length as u32,
-                u32::from(asked.dependencies),
-                u32::from(asked.inline_names),
-                old.as_ptr(),
-                old.len(),
-                sheet.as_mut_ptr(),
-                sheet.len(),
-            )
-        }
+        let (given, count) = (old.as_ptr(), old.len());
+        let (words, room) = (sheet.as_mut_ptr(), sheet.len());
+        on_stream!(doortumble_widen, stream, asked, given, count, words, room)
     })
 }
 
-/// The table has two words of 32 bits in each of the lent ones.
-pub fn owners(stream: &[u8], asked: Asked) -> Call<'_> {
-    Box::new(move |table| {
-        let words = table.as_mut_ptr().cast();
-        called(doortumble_owners, stream, asked, words, table.len() * 2)
+/// Sheet and table by one call. Behind the sheet's words stands the table, two of its words of 32 bits in each of the lent ones.
+pub fn body(stream: &[u8], asked: Asked) -> Call<'_> {
+    Box::new(move |words| {
+        let (sheet, table) = words.split_at_mut(ROOM);
+        let (words, room) = (sheet.as_mut_ptr(), sheet.len());
+        let (owners, count) = (table.as_mut_ptr().cast(), 2 * table.len());
+        on_stream!(doortumble_body, stream, asked, words, room, owners, count)
     })
 }

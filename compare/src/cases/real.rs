@@ -1,7 +1,7 @@
 //! Cases on a log that Windows wrote: each chunk, each record, each stream and each template definition in it.
 
 use super::Case;
-use super::body_cases::{OWNERS, call, needed};
+use super::body_cases::{joined, more, sheet};
 use super::chunk_cases;
 use super::file_cases::MOST;
 use super::token_cases::case;
@@ -222,16 +222,15 @@ fn asked(start: usize, length: usize, dependencies: bool) -> Asked {
     }
 }
 
-/// Tokens, owner table, and both C calls, with a word more lent than they need, or a few where they are refused.
+/// Tokens, owner table, sheet alone and the joined call, with a word more lent than they need, or a few where they are refused.
 fn of_stream(chunk: &[u8], walk: Asked) -> [Case; 4] {
     let (start, length) = (walk.start as u32, walk.length as u32);
     let flags = if walk.dependencies { DEPENDENCIES } else { 0 };
-    let tokens = streams::walk(chunk, walk).tokens.len();
-    let lent = |flags| call(flags, needed(flags, tokens) + 1, start, length, chunk);
+    let rooms = more(streams::walk(chunk, walk).tokens.len(), 1);
     [
         case(b'T', flags, start, length, chunk),
         case(b'O', flags, start, length, chunk),
-        lent(flags),
-        lent(flags | OWNERS),
+        sheet(flags, rooms[0], start, length, chunk),
+        joined(flags, rooms, start, length, chunk),
     ]
 }

@@ -1,9 +1,9 @@
-//! The owner tables and C calls of the stored batch: short lists of tokens, bodies of every token, each refusal of the
+//! The owner tables, sheets and joined calls of the stored batch: short lists of tokens, bodies of every token, each refusal of the
 //! grammar, the limit of levels, the sheet's every field, and lent words that are too few, enough or more. Of
 //! streams at the limit of their length there are two; the made cases have more, since each has 64 KiB.
 
 use super::Case;
-use super::body_cases::{OWNERS, call, calls, fragments, needed, owners, shown};
+use super::body_cases::{calls, fragments, joined, needed, owners, sheet, shown};
 use super::lists::{every, nested};
 use super::stored_tokens::{DOCUMENT, NAMES, REFUSED, Sample, WHOLE, hex, moved};
 use super::streams::shortest_of_list;
@@ -99,18 +99,18 @@ pub fn cases() -> Vec<Case> {
     cases.extend(windows());
     // The longest stream, all of tokens of one byte: as many tokens as there can be, and the most words that a sheet needs.
     cases.push(case(b'O', 0, 0, 65536, &[4; 65536]));
-    cases.push(call(0, 1, 0, 65536, &[4; 65536]));
+    cases.push(sheet(0, 1, 0, 65536, &[4; 65536]));
     cases
 }
 
-/// A stream's owner table, and both C calls with words for so many tokens.
+/// A stream's owner table, its sheet alone and the joined call, with words for so many tokens.
 fn all_modes(flags: u8, stream: &[u8], tokens: usize) -> Vec<Case> {
     let size = stream.len() as u32;
-    let lent = |flags| call(flags, needed(flags, tokens), 0, size, stream);
+    let rooms = needed(tokens);
     vec![
         case(b'O', flags, 0, size, stream),
-        lent(flags),
-        lent(flags | OWNERS),
+        sheet(flags, rooms[0], 0, size, stream),
+        joined(flags, rooms, 0, size, stream),
     ]
 }
 
@@ -122,15 +122,16 @@ fn samples() -> Vec<Case> {
     }
     for (flags, text) in NAMES {
         let (start, length, stream) = moved(text);
-        cases.push(call(*flags, 15, start, length, &stream));
+        cases.push(sheet(*flags, 15, start, length, &stream));
+        cases.push(joined(*flags, [15, 7], start, length, &stream));
     }
     for (flags, text) in REFUSED {
         cases.extend(all_modes(*flags, &hex(text), 2));
     }
     for (start, length) in [(0, 1), (1, 0), (1, 1)] {
         cases.push(case(b'O', 0, start, length, &[]));
-        cases.push(call(0, 1, start, length, &[]));
-        cases.push(call(OWNERS, 1, start, length, &[]));
+        cases.push(sheet(0, 1, start, length, &[]));
+        cases.push(joined(0, [1, 1], start, length, &[]));
     }
     // The walk's refusal comes before the grammar's, and that before the lack of words.
     for text in ["04 10", "04 05 02", "04", "01 00000000 00020000"] {
@@ -236,7 +237,7 @@ fn levels() -> Vec<Case> {
     cases
 }
 
-/// Words lent: none, as many as there are tokens, one too few, as many as are needed, one more, and more; and every kind of token with
+/// Words lent: none, one too few, as many as are needed, one more, as many as the other needs, and more; and every kind of token with
 /// all that the sheet shows of it.
 fn rooms() -> Vec<Case> {
     let mut cases = Vec::new();
@@ -258,7 +259,7 @@ fn rooms() -> Vec<Case> {
         cases.extend(calls(list));
     }
     let list = [OPEN, CLOSE_START, CDATA, CLOSE_ELEMENT];
-    cases.extend(all_modes(0xf8, &shortest_of_list(&list), 9));
+    cases.extend(all_modes(0xfc, &shortest_of_list(&list), 9));
     cases.extend(ALL.map(|kind| shown(&[kind])));
     cases.push(shown(&EVERY_TOKEN));
     cases
@@ -275,15 +276,16 @@ fn windows() -> Vec<Case> {
         for length in [0, 1, size.saturating_sub(start), u32::MAX] {
             cases.push(case(b'O', 0, start, length, &stream));
         }
-        cases.push(call(0, 6, start, 14, &stream));
+        cases.push(sheet(0, 6, start, 14, &stream));
     }
     for length in 0..=size + 1 {
         cases.push(case(b'O', 0, 0, length, &stream));
-        cases.push(call(OWNERS, 4, 0, length, &stream));
+        cases.push(joined(0, needed(4), 0, length, &stream));
     }
     for start in [65536, 1 << 31, u32::MAX] {
         cases.push(case(b'O', 0, start, u32::MAX, &stream));
-        cases.push(call(0, 4, start, u32::MAX, &stream));
+        cases.push(sheet(0, 4, start, u32::MAX, &stream));
+        cases.push(joined(0, [4, 4], start, u32::MAX, &stream));
     }
     cases
 }

@@ -9,11 +9,11 @@ mod reader;
 pub mod streams;
 mod values;
 
-use crate::oracle::batch::Case;
+use crate::oracle::batch::{Case, push_rows};
 use crate::oracle::chunk::{Answer, State, refused, words};
+use crate::oracle::file;
 use crate::oracle::refusal::Refusal;
 use crate::oracle::tokens::{Asked, Row, push_single};
-use crate::oracle::{calls, file, owners};
 use chunks::Chunk;
 use std::fmt::Write;
 
@@ -29,9 +29,7 @@ pub fn answer(case: &Case, out: &mut String) {
         b'P' => step(data, case.state(), out),
         b'T' => tokens(data, case.walk(), out),
         b'S' => single(data, case.start as usize, out),
-        b'O' => owners::push(rows(data, case.walk()), out),
-        b'C' => calls::push(rows(data, case.walk()), case.call(), out),
-        b'K' => calls::push_moved(rows(data, case.walk()), &case.moved(), out),
+        b'O' | b'C' | b'B' | b'K' => push_rows(case, rows(data, case.walk()), out),
         b'M' => merges::push(&case.parts(), case.flag(1), out),
         mode => unreachable!("a case of mode {mode}"),
     }

@@ -2,10 +2,11 @@
 
 use crate::document;
 use crate::document::merges::Parts;
-use crate::oracle::calls::{Call, Move};
+use crate::oracle::calls::{Move, Rooms};
 use crate::oracle::chunk::State;
 use crate::oracle::differences::{self, Met};
-use crate::oracle::tokens::Asked;
+use crate::oracle::refusal::Refusal;
+use crate::oracle::tokens::{Asked, Row};
 use crate::oracle::{calls, chunk, file, owners, tokens};
 use std::io::{self, Read, Write};
 
@@ -13,6 +14,7 @@ const HEAD: usize = 14;
 const DATA_LIMIT: usize = 331_776;
 const STATE: usize = 40;
 const ROOM: usize = 4;
+const ROOMS: usize = 8;
 const KEPT: usize = 8;
 const WORD: usize = 8;
 const NUMBERS: usize = 12;
@@ -48,6 +50,7 @@ impl Case {
             b'H' | b'E' | b'R' | b'W' | b'F' | b'T' | b'S' | b'O' => Some(0),
             b'P' => Some(STATE),
             b'C' => Some(ROOM),
+            b'B' => Some(ROOMS),
             b'K' => Some(KEPT),
             b'M' => Some(NUMBERS),
             _ => None,
@@ -74,7 +77,7 @@ impl Case {
         &self.data[self.front()..]
     }
 
-    /// The walk that the modes T, O, C and K begin with.
+    /// The walk that the modes T, O, C, B and K begin with.
     pub(crate) fn walk(&self) -> Asked {
         Asked {
             start: self.start as usize,
@@ -98,20 +101,25 @@ impl Case {
         Parts::new(&self.data).expect("a case has them")
     }
 
-    /// Mode C's call.
-    pub(crate) fn call(&self) -> Call {
-        Call {
-            owners: self.flag(4),
-            room: self.word(0),
+    /// How many words mode C lends.
+    fn room(&self) -> u32 {
+        self.word(0)
+    }
+
+    /// How many words mode B lends.
+    fn rooms(&self) -> Rooms {
+        Rooms {
+            sheet: self.word(0),
+            table: self.word(ROOM),
         }
     }
 
     /// Mode K's sheet.
-    pub(crate) fn moved(&self) -> Move {
+    fn moved(&self) -> Move {
         let words = self.data[KEPT..self.front()].as_chunks::<WORD>().0;
         Move {
             narrow: self.flag(4),
-            room: self.word(0),
+            room: self.room(),
             given: words.iter().map(|word| u64::from_le_bytes(*word)).collect(),
         }
     }
@@ -233,19 +241,9 @@ fn answer(case: &Case, out: &mut String) -> Met {
             tokens::answer_single(data, case.start as usize, out);
             Met::new()
         }
-        b'O' => {
+        b'O' | b'C' | b'B' | b'K' => {
             let (rows, met) = tokens::rows(data, case.walk());
-            owners::push(rows, out);
-            met
-        }
-        b'C' => {
-            let (rows, met) = tokens::rows(data, case.walk());
-            calls::push(rows, case.call(), out);
-            met
-        }
-        b'K' => {
-            let (rows, met) = tokens::rows(data, case.walk());
-            calls::push_moved(rows, &case.moved(), out);
+            push_rows(case, rows, out);
             met
         }
         // The printed Rust has no merge: the second reading answers for it.
@@ -253,6 +251,17 @@ fn answer(case: &Case, out: &mut String) -> Met {
             document::merges::push(&case.parts(), case.flag(1), out);
             Met::new()
         }
+        mode => unreachable!("a case of mode {mode}"),
+    }
+}
+
+/// What the modes O, C, B and K make of a walk's tokens, whoever read them.
+pub(crate) fn push_rows(case: &Case, rows: Result<Vec<Row>, Refusal>, out: &mut String) {
+    match case.mode {
+        b'O' => owners::push(rows, out),
+        b'C' => calls::push_sheet(rows, case.room(), out),
+        b'B' => calls::push_body(rows, case.rooms(), out),
+        b'K' => calls::push_moved(rows, &case.moved(), out),
         mode => unreachable!("a case of mode {mode}"),
     }
 }

@@ -1,20 +1,21 @@
-//! Modes C and K: what the C calls answer and leave in the lent words ('Sheet and C calls'; document 02, P2 and P3).
+//! Modes C, B and K: what the calls answer and leave in the lent words ('Sheet and C calls'; document 02, P2, P3 and P8).
 //!
 //! The printed Rust has no such calls. The sheet's words are made from its walk's tokens, the owner
 //! table is mode O's, and document 01's rules for lent words come on top.
 
+use crate::oracle::chunk::refused;
 use crate::oracle::owners;
 use crate::oracle::refusal::Refusal;
 use crate::oracle::tokens::Row;
-use std::fmt::Write;
+use std::fmt::{LowerHex, Write};
 
 /// The most words that a case lends.
 const MOST_ROOM: usize = 65536;
 
-/// Which call, and how many words are lent to it.
-pub struct Call {
-    pub owners: bool,
-    pub room: u32,
+/// How many words are lent to the joined call.
+pub struct Rooms {
+    pub sheet: u32,
+    pub table: u32,
 }
 
 /// A kept sheet that is to be moved: its words, which way, and how many words are lent.
@@ -76,19 +77,12 @@ impl Filled {
             words: rows.iter().map(Row::old_word).collect(),
         }
     }
-
-    fn table(owners: Vec<u32>) -> Self {
-        Filled {
-            count: owners.len(),
-            words: owners.into_iter().map(u64::from).collect(),
-        }
-    }
 }
 
 /// "Answer: refused 1 bit, number 7, 16 zeros, place or count 40."
-fn answer_word(answer: &Result<Filled, Refusal>) -> u64 {
+fn answer_word(answer: Result<usize, Refusal>) -> u64 {
     let (refused, number, last) = match answer {
-        Ok(filled) => (0, 0, filled.count as u64),
+        Ok(count) => (0, 0, count as u64),
         Err(refusal) => (1, refusal.number, refusal.place),
     };
     packed([(refused, 1), (u64::from(number), 7), (0, 16), (last, 40)])
@@ -104,15 +98,46 @@ fn packed<const N: usize>(fields: [(u64, u32); N]) -> u64 {
     })
 }
 
-/// Mode C, of a walk's tokens.
-pub(crate) fn push(rows: Result<Vec<Row>, Refusal>, call: Call, out: &mut String) {
-    if call.owners {
-        let filled = owners::of_rows(rows).map(Filled::table);
-        push_lent(filled, call.room, 8, u64::from(u32::MAX), out);
-    } else {
-        let filled = rows.map(|rows| Filled::sheet(&rows));
-        push_lent(filled, call.room, 16, u64::MAX, out);
+/// Mode C, of a walk's tokens: "the library keeps its sheet".
+pub(crate) fn push_sheet(rows: Result<Vec<Row>, Refusal>, room: u32, out: &mut String) {
+    let room = self::room(room);
+    let filled = rows.and_then(|rows| fitting(Filled::sheet(&rows), room));
+    match &filled {
+        Ok(filled) => writeln!(out, "count {}", filled.count).expect("a String takes all"),
+        Err(refusal) => out.push_str(&refused(*refusal)),
     }
+    push_words("words", left(filled, room), 16, out);
+}
+
+/// What the joined call makes of a stream: "one that fills both lent buffers" (document 02, P8).
+pub(crate) struct Joined {
+    pub sheet: Vec<u64>,
+    pub table: Vec<u32>,
+}
+
+/// Mode B, of a walk's tokens. The grammar's refusals come before those of the lent words.
+pub(crate) fn push_body(rows: Result<Vec<Row>, Refusal>, rooms: Rooms, out: &mut String) {
+    let joined = rows.and_then(|rows| {
+        let table = owners::of_rows(&rows)?;
+        let sheet = rows.iter().flat_map(Row::words).collect();
+        Ok(Joined { sheet, table })
+    });
+    push_joined(joined, rooms, out);
+}
+
+/// The joined call's answer and both lent buffers, by what it makes: "16 for the sheet, then 16 for the table, after the grammar's".
+pub(crate) fn push_joined(joined: Result<Joined, Refusal>, rooms: Rooms, out: &mut String) {
+    let [sheet_room, table_room] = [rooms.sheet, rooms.table].map(room);
+    let filled = joined.and_then(|Joined { sheet, table }| {
+        for (needed, room) in [(sheet.len(), sheet_room), (table.len(), table_room)] {
+            enough(needed, room)?;
+        }
+        Ok((sheet, table))
+    });
+    push_answer(filled.as_ref().map(|(_, table)| table.len()), out);
+    let (sheet, table) = filled.unwrap_or_default();
+    push_words("sheet", lent(sheet, sheet_room, u64::MAX), 16, out);
+    push_words("table", lent(table, table_room, u32::MAX), 8, out);
 }
 
 /// Mode K: "Given the old sheet and its stream, make the two-word sheet; given the new one, give the old one back. The sheet
@@ -128,24 +153,21 @@ pub(crate) fn push_moved(rows: Result<Vec<Row>, Refusal>, moved: &Move, out: &mu
             None => Ok(made),
         }
     });
-    push_lent(filled, moved.room, 16, u64::MAX, out);
+    let room = room(moved.room);
+    push_left(filled.and_then(|filled| fitting(filled, room)), room, out);
 }
 
-/// The answer, and the lent words, each of which is all ones before the call.
-fn push_lent(
-    filled: Result<Filled, Refusal>,
-    room: u32,
-    digits: usize,
-    ones: u64,
-    out: &mut String,
-) {
-    let room = self::room(room);
-    // 16 comes last: "lent sheet or table too short", "words needed"; "refusal 16 for a sheet counts two words a token".
-    let filled = filled.and_then(|filled| match filled.words.len() {
-        needed if needed > room => Err(Refusal::new(16, needed as u64)),
-        _ => Ok(filled),
-    });
-    push_left(filled, room, digits, ones, out);
+/// What is made, if its words have room.
+fn fitting(filled: Filled, room: usize) -> Result<Filled, Refusal> {
+    enough(filled.words.len(), room).map(|()| filled)
+}
+
+/// 16 comes last: "lent sheet or table too short", "words needed"; "refusal 16 for a sheet counts two words a token".
+fn enough(needed: usize, room: usize) -> Result<(), Refusal> {
+    if needed > room {
+        return Err(Refusal::new(16, needed as u64));
+    }
+    Ok(())
 }
 
 /// How many words a case lends.
@@ -153,21 +175,34 @@ pub(crate) fn room(said: u32) -> usize {
     MOST_ROOM.min(said as usize)
 }
 
-/// A call's answer, and the words that it leaves of `room` lent ones, which were `ones`, in so many digits.
-pub(crate) fn push_left(
-    filled: Result<Filled, Refusal>,
-    room: usize,
-    digits: usize,
-    ones: u64,
-    out: &mut String,
-) {
-    writeln!(out, "answer {:016x}", answer_word(&filled)).expect("a String takes all");
+/// A call's answer, and the words that it leaves of `room` lent ones.
+pub(crate) fn push_left(filled: Result<Filled, Refusal>, room: usize, out: &mut String) {
+    push_answer(filled.as_ref().map(|filled| filled.count), out);
+    push_words("words", left(filled, room), 16, out);
+}
 
-    // "A refusal writes nothing"; "words past the token count stay".
-    let mut lent = filled.map_or(Vec::new(), |filled| filled.words);
-    lent.resize(room, ones);
-    out.push_str("words");
-    for word in lent {
+/// The words that a call leaves of `room` lent ones.
+fn left(filled: Result<Filled, Refusal>, room: usize) -> Vec<u64> {
+    // "A refusal writes nothing."
+    let words = filled.map_or(Vec::new(), |filled| filled.words);
+    lent(words, room, u64::MAX)
+}
+
+/// Lent words, each of which is all ones before the call: "words past the token count stay".
+fn lent<W: Clone>(mut words: Vec<W>, room: usize, ones: W) -> Vec<W> {
+    words.resize(room, ones);
+    words
+}
+
+fn push_answer(answer: Result<usize, &Refusal>, out: &mut String) {
+    let word = answer_word(answer.map_err(|refusal| *refusal));
+    writeln!(out, "answer {word:016x}").expect("a String takes all");
+}
+
+/// A line of words in so many digits.
+fn push_words<W: LowerHex>(name: &str, words: Vec<W>, digits: usize, out: &mut String) {
+    out.push_str(name);
+    for word in words {
         write!(out, " {word:0digits$x}").expect("a String takes all");
     }
     out.push('\n');

@@ -86,7 +86,7 @@ pub(super) fn held(mode: u8, document: &str, rust: &str, met: &Met) -> String {
     let differing = pairs.find(|(ours, theirs)| ours != theirs);
     let explains = |row: &&Difference| {
         differing.is_some_and(|(ours, theirs)| match mode {
-            b'O' | b'C' | b'K' => row.explains_unlisted(ours, theirs),
+            b'O' | b'C' | b'B' | b'K' => row.explains_unlisted(ours, theirs),
             _ => row.explains(ours, theirs),
         })
     };
@@ -117,7 +117,7 @@ impl Difference {
         }
     }
 
-    /// The same in the modes O, C and K, whose answers do not list the tokens: the token that meets the row has no line of its
+    /// The same in the modes O, C, B and K, whose answers do not list the tokens: the token that meets the row has no line of its
     /// own there, and what comes after it may decide.
     fn explains_unlisted(self, document: &str, rust: &str) -> bool {
         match self {

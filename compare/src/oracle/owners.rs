@@ -96,15 +96,15 @@ pub fn owners(kinds: &[u8], most_levels: usize) -> Result<Vec<u32>, Refusal> {
 
 /// The owner table of a walk's tokens. Document 01's order of refusals: 1; then the walk's, first met;
 /// then 13, 14 or 15, and document 02's 20.
-pub(super) fn of_rows(rows: Result<Vec<Row>, Refusal>) -> Result<Vec<u32>, Refusal> {
+pub(super) fn of_rows(rows: &[Row]) -> Result<Vec<u32>, Refusal> {
     let kind = |row: &Row| if row.announced { ANNOUNCING } else { row.kind };
-    let kinds: Vec<u8> = rows?.iter().map(kind).collect();
+    let kinds: Vec<u8> = rows.iter().map(kind).collect();
     owners(&kinds, MOST_LEVELS)
 }
 
 /// Mode O, of a walk's tokens.
 pub(crate) fn push(rows: Result<Vec<Row>, Refusal>, out: &mut String) {
-    match of_rows(rows) {
+    match rows.and_then(|rows| of_rows(&rows)) {
         Ok(table) => out.push_str(&words("owners", &table)),
         Err(refusal) => out.push_str(&refused(refusal)),
     }

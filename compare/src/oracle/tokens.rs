@@ -1,4 +1,4 @@
-//! The token side: the walk with each token's place and length, for modes T, O and C, and the single instance.
+//! The token side: the walk with each token's place and length, for modes T, O, C, B and K, and the single instance.
 //!
 //! The printed walk hands a token to its sink and says nothing of where it stood. Both ends are
 //! got from the printed walk all the same:

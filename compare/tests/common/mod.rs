@@ -12,6 +12,14 @@ pub fn case(mode: u8, flags: u8, start: u32, length: u32, data: &[u8]) -> Vec<u8
     case
 }
 
+/// A case on a whole stream that lends so many words of each kind.
+#[allow(dead_code, reason = "not every check uses it")]
+pub fn lending(mode: u8, flags: u8, rooms: &[u32], stream: &[u8]) -> Vec<u8> {
+    let mut data: Vec<u8> = rooms.iter().flat_map(|room| room.to_le_bytes()).collect();
+    data.extend(stream);
+    case(mode, flags, 0, stream.len() as u32, &data)
+}
+
 /// The answer lines of a batch by the printed Rust, and by document 01's second reading with the rows of the list of differences.
 pub fn both(batch: &[u8]) -> (String, String) {
     let (mut rust, mut held) = (Vec::new(), Vec::new());

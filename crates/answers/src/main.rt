@@ -142,6 +142,7 @@ fn least_data(mode: u8) -> usize {
         b'S' => 0,
         b'O' => 0,
         b'C' => stream_answers::ROOM,
+        b'B' => stream_answers::ROOMS,
         b'K' => stream_answers::KEPT,
         _ => MOST_DATA + 1,
     }
@@ -171,25 +172,17 @@ fn answer(out: &mut [u8], at: usize, case: Case, bytes: &[u8]) -> usize {
     }
 }
 
-// The modes that ask for a part of a stream. Of mode C, flag 4 is the owner call, else the sheet call; of mode K the old sheet is made, else the
-// new one.
+// The modes that ask for a part of a stream. Of mode K, flag 4 asks for the old sheet, else the new one is made.
 fn on_stream(out: &mut [u8], at: usize, case: Case, bytes: &[u8]) -> usize {
     let mode = case.mode;
     let asked = asked_of(case);
-    let third = case.flags / 4 % 2 == 1;
     match mode {
         b'T' => stream_answers::walk(out, at, bytes, asked),
         b'O' => stream_answers::owners(out, at, bytes, asked),
-        b'K' => stream_answers::kept_call(out, at, bytes, asked, third),
-        _ => called(out, at, bytes, asked, third),
+        b'B' => stream_answers::body_call(out, at, bytes, asked),
+        b'K' => stream_answers::kept_call(out, at, bytes, asked, case.flags / 4 % 2 == 1),
+        _ => stream_answers::sheet_alone(out, at, bytes, asked),
     }
-}
-
-fn called(out: &mut [u8], at: usize, bytes: &[u8], asked: Asked, owners: bool) -> usize {
-    if owners {
-        return stream_answers::owners_call(out, at, bytes, asked);
-    }
-    stream_answers::sheet_call(out, at, bytes, asked)
 }
 
 // How a stream is read: flag 1, dependencies carried; flag 2, names inline.

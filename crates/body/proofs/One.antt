@@ -1,4 +1,4 @@
--- The contract allows one answer and one table. Assumes nothing.
+-- The contract allows one answer, one sheet and one table. Assumes nothing.
 use mathlib.Core.Path.{_≡_, refl, sym, ap, subst, _∙_}
 use mathlib.Core.List.{List, [], _++_, append-nil, append-assoc}
 use Prim.Native.Nat.{ℕ, suc, _+_, _-_, _≤_, _<_}
@@ -10,7 +10,7 @@ use Rattle.cursor.specs.Answer.{Result, gives, refuses}
 use Rattle.tokens.specs.Walk.{Walked, ok, bad}
 use Rattle.sheet.specs.Sheet.{marksOf}
 use Rattle.body.specs.Grammar.{Rule, wide, narrow, Reading}
-use Rattle.body.specs.Verdict.{Begins, NoBody, TooDeep, Disagrees, Unfinished, Refuses, no-body, too-deep, disagreeing, unfinished-body, Verdict, a-body, refused, Judged, unread, read, tableAnswer, tableLeft, Answered}
+use Rattle.body.specs.Verdict.{Begins, NoBody, TooDeep, Disagrees, Unfinished, Refuses, no-body, too-deep, disagreeing, unfinished-body, Verdict, a-body, refused, Judged, unread, read, Both, bothOf, bothAnswer, bothLeft, Answered}
 use Rattle.body.proofs.Rules.{reading-wide}
 use Rattle.body.proofs.Agree.{one-table}
 
@@ -117,10 +117,10 @@ pub one-judgement : {w : Walked} {u v : Result (List ℕ)} → Judged w u → Ju
 one-judgement (unread k p) (unread m q) = refl
 one-judgement (read l u x) (read n v y) = one-verdict (marksOf l) x y
 
-module _ (lent left left′ : List ℕ) where
+module _ (lent left left′ : Both) where
   pub one-answer : {w : Walked} {o p : Result ℕ} → Answered lent left w o → Answered lent left′ w p → (o ≡ p) × (left ≡ left′)
-  one-answer x y =
+  one-answer {w = w} x y =
       let e = one-judgement (x .judged) (y .judged) in (
-        x .answer ∙ ap (λ (v : Result (List ℕ)). tableAnswer v lent) e ∙ sym (y .answer),
-        x .table ∙ ap (λ (v : Result (List ℕ)). tableLeft v lent) e ∙ sym (y .table),
+        x .answer ∙ ap (λ (v : Result (List ℕ)). bothAnswer (bothOf w v) lent) e ∙ sym (y .answer),
+        x .buffers ∙ ap (λ (v : Result (List ℕ)). bothLeft (bothOf w v) lent) e ∙ sym (y .buffers),
       )

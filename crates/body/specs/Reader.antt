@@ -3,14 +3,16 @@
 use mathlib.Core.Path.{_≡_}
 use mathlib.Core.Bool.{Bool, true, false, _||_}
 use mathlib.Core.List.{List, [], _∷_}
-use mathlib.Core.Logic.{_⊎_}
-use Prim.Native.Nat.{ℕ, suc, _+_, _-_, _≤_, _<_}
+use Prim.Native.Nat.{ℕ, suc, _+_, _*_, _≤_, _<_}
 use lib.Dec.{eqb, ltb}
 use lib.ListN.{length, getD, take, drop, set}
 use lib.Seq.{sets}
 use Rattle.cursor.specs.Answer.{Result, gives, refuses, pick}
 use Rattle.cursor.specs.Refusals.{noBody, tooDeep, unfinished, disagree}
 use Rattle.tokens.specs.Token.{instanceKind, openKind, closeStartKind, closeEmptyKind, closeElementKind, valueKind, attributeKind, entityRefKind, piTargetKind, piDataKind, cdataKind, charRefKind, substitutionKind}
+use Rattle.tokens.specs.Walk.{walkAt, countedOf}
+use Rattle.tokens.specs.declared.Flags.{Flags}
+use Rattle.sheet.specs.Sheet.{wordsPerToken, marksOf, readAt}
 use Rattle.body.specs.Grammar.{Rule, announces, kindOf}
 use Rattle.body.specs.Verdict.{deepest}
 use Rattle.body.specs.declared.reader.Read.{Read}
@@ -212,10 +214,10 @@ verdictOf (refused k p) words = refuses k p
 abbrev pub verdictOn : List ℕ → Result (List ℕ)
 verdictOn marks = verdictOf (outcome true deepest begin 0 marks) (wordsFrom true deepest begin 0 marks)
 
--- at most m bytes are left from the start on, or at most m places where a token may begin
-abbrev pub Few : List ℕ → ℕ → ℕ → ℕ → Type 0
-Few s start end m = (length s - start ≤ m) ⊎ (end - start ≤ m)
+-- words of a call's own: a place for each token that has a mark, in the sheet's words and in the owners'
+abbrev pub HasRoom : List ℕ → List ℕ → List ℕ → Type 0
+HasRoom marks words owners = (length marks ≤ 65536) × (length marks * wordsPerToken ≤ length words) × (length marks ≤ length owners)
 
--- where there is room for the words of a body they stand at the front
-abbrev pub InFront : List ℕ → List ℕ → Type 0
-InFront marks words = length marks ≤ length words → take (length marks) words ≡ wordsFrom true deepest begin 0 marks
+-- a walk that was read: its tokens have these marks
+abbrev pub WalkNoted : List ℕ → ℕ → Flags → ℕ → List ℕ → Type 0
+WalkNoted s end f start marks = (countedOf (walkAt s end f start) ≡ gives (length marks)) × (marks ≡ marksOf (readAt s end f start))

@@ -1,17 +1,17 @@
 -- What accepting and refusing say. Document 01, "Refusals and their places" 13 to 16, and document 02, P5: "what it accepts, its "no
 -- continuation" and its "some continuation" alike, is read over this narrower grammar, refusal 13 over the wide one". First by the grammar
--- alone, then with the walk before it, and last what a lent table adds.
+-- alone, then with the walk before it, and last what a lent sheet and a lent table add.
 use mathlib.Core.Path.{_≡_}
-use mathlib.Core.List.{List, _++_}
+use mathlib.Core.List.{List, [], _++_}
 use Prim.Native.Nat.{ℕ, suc, _≤_, _<_}
 use lib.ListN.{length, take, getD}
 use Rattle.cursor.specs.Answer.{Result, gives, refuses}
-use Rattle.cursor.specs.Lent.{lentAnswer, lentLeft}
+use Rattle.cursor.specs.Lent.{laid, lentAnswer}
 use Rattle.cursor.specs.Refusals.{noBody, tooDeep, unfinished, disagree}
 use Rattle.tokens.specs.Token.{openKind}
 use Rattle.tokens.specs.Walk.{Walked, ok, bad}
 use Rattle.tokens.specs.declared.Token.{Token}
-use Rattle.sheet.specs.Sheet.{marksOf}
+use Rattle.sheet.specs.Sheet.{wordsOf, marksOf}
 use Rattle.body.specs.Grammar.{kindOf, Rule, wide, narrow, Reading}
 
 -- "levels limited to 64"
@@ -70,17 +70,49 @@ pub data Judged : Walked → Result (List ℕ) → Type 0 where
   unread : (k p : ℕ) → Judged (bad k p) (refuses k p)
   read : (l : List Token) (v : Result (List ℕ)) → Verdict (marksOf l) v → Judged (ok l) v
 
--- "then 16": "lent sheet or table too short", "words needed". The answer for a verdict and a lent table
-abbrev pub tableAnswer : Result (List ℕ) → List ℕ → Result ℕ
-tableAnswer verdict lent = lentAnswer verdict lent
+-- The words of a sheet and of an owner table: those that a body has, those that are lent, and what is left in these.
+pub record Both : Type 0 where
+  pub sheet : List ℕ
+  pub table : List ℕ
 
--- "A refusal writes nothing." What the table holds then
-abbrev pub tableLeft : Result (List ℕ) → List ℕ → List ℕ
-tableLeft verdict lent = lentLeft verdict lent
+abbrev pub both : List ℕ → List ℕ → Both
+both sheet table = record { sheet = sheet; table = table }
 
--- What the call answers for a walk and a lent table, and what it leaves in the table.
-pub record Answered (lent left : List ℕ) (w : Walked) (o : Result ℕ) : Type 0 where
+-- the sheet's words of a walk
+abbrev pub sheetOf : Walked → List ℕ
+sheetOf (ok l) = wordsOf l
+sheetOf (bad k p) = []
+
+-- what a verdict has for the two: of a body the words of its tokens and of its owner table
+abbrev pub bothWith : List ℕ → Result (List ℕ) → Result Both
+bothWith sheet (gives owners) = gives (both sheet owners)
+bothWith sheet (refuses k p) = refuses k p
+
+abbrev pub bothOf : Walked → Result (List ℕ) → Result Both
+bothOf w verdict = bothWith (sheetOf w) verdict
+
+-- one answer after another: the first that refuses counts
+abbrev pub followed : Result ℕ → Result ℕ → Result ℕ
+followed (gives n) next = next
+followed (refuses k p) next = refuses k p
+
+-- Document 02, P8: "16 for the sheet, then 16 for the table, after the grammar's". The answer counts the table's words, one a token
+abbrev pub bothAnswer : Result Both → Both → Result ℕ
+bothAnswer (gives words) lent = followed (lentAnswer (gives (words .sheet)) (lent .sheet)) (lentAnswer (gives (words .table)) (lent .table))
+bothAnswer (refuses k p) lent = refuses k p
+
+-- "one that fills both lent buffers"; "A refusal writes nothing", in neither. What both hold after an answer
+abbrev pub writtenBy : Result ℕ → Both → Both → Both
+writtenBy (gives n) words lent = both (laid (words .sheet) (lent .sheet)) (laid (words .table) (lent .table))
+writtenBy (refuses k p) words lent = lent
+
+abbrev pub bothLeft : Result Both → Both → Both
+bothLeft (gives words) lent = writtenBy (bothAnswer (gives words) lent) words lent
+bothLeft (refuses k p) lent = lent
+
+-- What the call answers for a walk, a lent sheet and a lent table, and what it leaves in both.
+pub record Answered (lent left : Both) (w : Walked) (o : Result ℕ) : Type 0 where
   pub verdict : Result (List ℕ)
   pub judged : Judged w verdict
-  pub answer : o ≡ tableAnswer verdict lent
-  pub table : left ≡ tableLeft verdict lent
+  pub answer : o ≡ bothAnswer (bothOf w verdict) lent
+  pub buffers : left ≡ bothLeft (bothOf w verdict) lent

@@ -7,7 +7,7 @@ use lib.Dec.{eqb}
 use Rattle.cursor.specs.Answer.{Result, gives, refuses}
 use Rattle.tokens.specs.Walk.{Walked}
 use Rattle.tokens.specs.declared.Flags.{Flags}
-use Rattle.body.specs.Verdict.{Answered}
+use Rattle.body.specs.Verdict.{Both, Answered}
 use Rattle.chunk.specs.Walk.{startOf}
 use Rattle.chunk.specs.Listing.{Lists}
 use Rattle.log_file.specs.Listing.{FileLists}
@@ -24,9 +24,9 @@ abbrev pub packedOf : Result ℕ → ℕ
 packedOf (gives n) = n % 2 ^ 40
 packedOf (refuses k p) = 2 ^ 63 + k % 2 ^ 7 * 2 ^ 56 + p % 2 ^ 40
 
--- the answer word is that of an answer that the owner table's definition allows, with what is left in the table
-abbrev pub OwnersPacked : Walked → List ℕ → List ℕ → ℕ → Type 0
-OwnersPacked w lent left word = (o : Result ℕ) × ((word ≡ packedOf o) × Answered lent left w o)
+-- document 02, P8: the answer word is that of an answer that the body's definition allows, with what is left in the sheet and in the table
+abbrev pub BodyPacked : Walked → Both → Both → ℕ → Type 0
+BodyPacked w lent left word = (o : Result ℕ) × ((word ≡ packedOf o) × Answered lent left w o)
 
 -- the same for the listing
 abbrev pub ListPacked : List ℕ → Bool → List ℕ → List ℕ → ℕ → Type 0

@@ -1,5 +1,5 @@
-// The C calls: a stream's sheet, its owner table, the moves of a kept sheet, and the listing and the header of a chunk and of a whole log
-// file. The C header is include/doortumble.h.
+// The C calls: sheet and owner table of a stream's body, the moves of a kept sheet, and the listing and the header of a chunk and of a whole
+// log file. The C header is include/doortumble.h.
 //
 // Each takes bytes, numbers and lent words, and answers one packed word. No call keeps anything between calls.
 use cursor::Counted;
@@ -10,24 +10,32 @@ ghost use Rattle.cursor.specs.Lent.{lentAnswer, lentLeft};
 ghost use Rattle.record.specs.Chunk.{headerWords};
 ghost use Rattle.log_file.specs.Header.{fileWords};
 ghost use Rattle.tokens.specs.Walk.{walkOf};
-ghost use Rattle.sheet.specs.Sheet.{wordsOf, sheetAnswer, sheetWords};
+ghost use Rattle.sheet.specs.Sheet.{wordsOf};
 ghost use Rattle.sheet.specs.Kept.{oldWordsOf, keptAnswer, keptWords};
-ghost use Rattle.doortumble.specs.Calls.{flagOf, flagsOf, packedOf, OwnersPacked, ListPacked, ListFilePacked};
+ghost use Rattle.body.specs.Verdict.{both};
+ghost use Rattle.doortumble.specs.Calls.{flagOf, flagsOf, packedOf, BodyPacked, ListPacked, ListFilePacked};
 
-// The sheet of a stream.
+// The sheet and the owner table of a stream that is an event body: two words a token, and one.
 #[no_mangle]
-pub extern "C" fn doortumble_sheet(
+pub extern "C" fn doortumble_body(
     stream: &[u8],
     start: u32,
     length: u32,
     dependencies: u32,
     inline: u32,
     sheet: &mut [u64],
+    table: &mut [u32],
 ) -> u64
-    ensures { λ r. ⌜ r ≡ packedOf (sheetAnswer (walkOf (now (stream .entry)) start length (flagsOf dependencies inline)) (now (sheet .entry))) ⌝ }
-    ensures { λ _. ⌜ now (sheet .exit) ≡ sheetWords (walkOf (now (stream .entry)) start length (flagsOf dependencies inline)) (now (sheet .entry)) ⌝ }
+    ensures { λ r. ⌜ BodyPacked (walkOf (now (stream .entry)) start length (flagsOf dependencies inline)) (both (now (sheet .entry)) (now (table .entry))) (both (now (sheet .exit)) (now (table .exit))) r ⌝ }
 {
-    packed(sheet::fill(stream, start, length, flags(dependencies, inline), sheet))
+    packed(body::fill(
+        stream,
+        start,
+        length,
+        flags(dependencies, inline),
+        sheet,
+        table,
+    ))
 }
 
 // The sheet of a stream from its old one, which has one word a token.
@@ -64,21 +72,6 @@ pub extern "C" fn doortumble_narrow(
 {
     let by = flags(dependencies, inline);
     packed(kept::narrow(stream, start, length, by, sheet, old))
-}
-
-// The owner table of a stream that is an event body, a word a token.
-#[no_mangle]
-pub extern "C" fn doortumble_owners(
-    stream: &[u8],
-    start: u32,
-    length: u32,
-    dependencies: u32,
-    inline: u32,
-    table: &mut [u32],
-) -> u64
-    ensures { λ r. ⌜ OwnersPacked (walkOf (now (stream .entry)) start length (flagsOf dependencies inline)) (now (table .entry)) (now (table .exit)) r ⌝ }
-{
-    packed(body::owners(stream, start, length, flags(dependencies, inline), table))
 }
 
 // The whole walk of a chunk, five words an answer.

@@ -7,11 +7,13 @@ use borrow.Fn.Kinds.{Dens, resT, endedOf}
 use denote.Triple.Clauses.{AtExit}
 use Rattle.cursor.specs.Answer.{Result}
 use Rattle.tokens.specs.Walk.{Walked}
+use Rattle.body.specs.Verdict.{Both}
 use Rattle.body.proofs.One.{one-answer}
 use Rattle.doortumble.specs.Calls.{packedOf}
 use Rattle.print.proofs.One.{puts-one, some-one}
 use Rattle.chunk_answers.proofs.One.{record-one, walk-one, step-text-one}
-use Rattle.stream_answers.specs.Modes.{OwnersSaid, OwnersCalled, ownersText, answerText, tableText}
+use Rattle.stream_answers.specs.Modes.{OwnersSaid, ownersText, answerText}
+use Rattle.stream_answers.specs.Body.{BodyCalled, bothText}
 use Rattle.listing_text.proofs.One.{listed-one}
 use Rattle.file_text.proofs.One.{file-listing-one, file-answers-one}
 use Rattle.chunk_answers.proofs.header.Kinds as headerK
@@ -30,14 +32,14 @@ use Rattle.stream_answers.proofs.single.Kinds as singleK
 use Rattle.stream_answers.proofs.single.Reads as singleR
 use Rattle.stream_answers.proofs.owners.Kinds as ownersK
 use Rattle.stream_answers.proofs.owners.Reads as ownersR
-use Rattle.stream_answers.proofs.sheet_call.Kinds as sheet-callK
-use Rattle.stream_answers.proofs.sheet_call.Reads as sheet-callR
+use Rattle.stream_answers.proofs.sheet_alone.Kinds as sheet-aloneK
+use Rattle.stream_answers.proofs.sheet_alone.Reads as sheet-aloneR
 use Rattle.stream_answers.proofs.kept_call.Kinds as kept-callK
 use Rattle.stream_answers.proofs.kept_call.Reads as kept-callR
 use Rattle.stream_answers.proofs.kept_front.Kinds as kept-frontK
 use Rattle.stream_answers.proofs.kept_front.Reads as kept-frontR
-use Rattle.stream_answers.proofs.owners_call.Kinds as owners-callK
-use Rattle.stream_answers.proofs.owners_call.Reads as owners-callR
+use Rattle.stream_answers.proofs.body_call.Kinds as body-callK
+use Rattle.stream_answers.proofs.body_call.Reads as body-callR
 use Rattle.listing_text.proofs.put.Kinds as listingK
 use Rattle.listing_text.proofs.put.Reads as listingR
 use Rattle.listing_text.proofs.refused.Kinds as refused-listingK
@@ -48,17 +50,17 @@ use Rattle.file_text.proofs.answers.Kinds as file-answersK
 use Rattle.file_text.proofs.answers.Reads as file-answersR
 use Rattle.promises.proofs.One.{Single}
 
--- the owner table's text, and the owner call's: the tokens have one answer and leave one table
+-- the owner table's text, and the text of the call for sheet and owner table: the tokens have one answer and leave one sheet and one table
 said-one : (w : Walked) (t u : List ℕ) → OwnersSaid w t → OwnersSaid w u → t ≡ u
 said-one w t u p q =
     let e = one-answer _ _ _ (p .answered) (q .answered) in
-    p .is ∙ ap (λ (c : Result ℕ). ownersText c (p .left)) (e .0) ∙ ap (ownersText (q .answer)) (e .1) ∙ sym (q .is)
+    p .is ∙ ap (λ (c : Result ℕ). ownersText c (p .left .table)) (e .0) ∙ ap (λ (b : Both). ownersText (q .answer) (b .table)) (e .1) ∙ sym (q .is)
 
-called-one : (w : Walked) (lent t u : List ℕ) → OwnersCalled w lent t → OwnersCalled w lent u → t ≡ u
+called-one : (w : Walked) (lent : Both) (t u : List ℕ) → BodyCalled w lent t → BodyCalled w lent u → t ≡ u
 called-one w lent t u p q =
     let e = one-answer _ _ _ (p .packed .1 .1) (q .packed .1 .1) in
     let word : p .word ≡ q .word = p .packed .1 .0 ∙ ap packedOf (e .0) ∙ sym (q .packed .1 .0) in
-    p .is ∙ ap (λ (n : ℕ). answerText n ++ tableText (p .left)) word ∙ ap (λ (l : List ℕ). answerText (q .word) ++ tableText l) (e .1) ∙ sym (q .is)
+    p .is ∙ ap (λ (n : ℕ). answerText n ++ bothText (p .left)) word ∙ ap (λ (b : Both). answerText (q .word) ++ bothText b) (e .1) ∙ sym (q .is)
 
 pub header : (κs : Lfts 2) (a : Dens κs headerK.ps) (x y : resT headerK.r κs .Denot) (s t : AtExit (endedOf 2 headerK.ps headerK.r) κs)
     → headerR.Post κs a x s → headerR.Post κs a y t → (s .0 .now ≡ t .0 .now) × (x ≡ y)
@@ -92,9 +94,9 @@ pub owners : (κs : Lfts 2) (a : Dens κs ownersK.ps) (x y : resT ownersK.r κs 
     → ownersR.Post κs a x s → ownersR.Post κs a y t → (s .0 .now ≡ t .0 .now) × (x ≡ y)
 owners κs a x y s t p q = some-one _ _ _ _ _ _ _ (λ t u. said-one _ t u) p q
 
-pub sheet-call : (κs : Lfts 2) (a : Dens κs sheet-callK.ps) (x y : resT sheet-callK.r κs .Denot) (s t : AtExit (endedOf 2 sheet-callK.ps sheet-callK.r) κs)
-    → sheet-callR.Post κs a x s → sheet-callR.Post κs a y t → (s .0 .now ≡ t .0 .now) × (x ≡ y)
-sheet-call κs a x y s t p q = puts-one _ _ _ _ _ _ _ _ refl p q
+pub sheet-alone : (κs : Lfts 2) (a : Dens κs sheet-aloneK.ps) (x y : resT sheet-aloneK.r κs .Denot) (s t : AtExit (endedOf 2 sheet-aloneK.ps sheet-aloneK.r) κs)
+    → sheet-aloneR.Post κs a x s → sheet-aloneR.Post κs a y t → (s .0 .now ≡ t .0 .now) × (x ≡ y)
+sheet-alone κs a x y s t p q = puts-one _ _ _ _ _ _ _ _ refl p q
 
 pub kept-call : (κs : Lfts 2) (a : Dens κs kept-callK.ps) (x y : resT kept-callK.r κs .Denot) (s t : AtExit (endedOf 2 kept-callK.ps kept-callK.r) κs)
     → kept-callR.Post κs a x s → kept-callR.Post κs a y t → (s .0 .now ≡ t .0 .now) × (x ≡ y)
@@ -103,9 +105,9 @@ kept-call κs a x y s t p q = puts-one _ _ _ _ _ _ _ _ refl p q
 pub kept-front : Single 1 kept-frontK.ps kept-frontK.r kept-frontR.Post
 kept-front κs a x y s t p q = p ∙ sym q
 
-pub owners-call : (κs : Lfts 2) (a : Dens κs owners-callK.ps) (x y : resT owners-callK.r κs .Denot) (s t : AtExit (endedOf 2 owners-callK.ps owners-callK.r) κs)
-    → owners-callR.Post κs a x s → owners-callR.Post κs a y t → (s .0 .now ≡ t .0 .now) × (x ≡ y)
-owners-call κs a x y s t p q = some-one _ _ _ _ _ _ _ (λ t u. called-one _ _ t u) p q
+pub body-call : (κs : Lfts 2) (a : Dens κs body-callK.ps) (x y : resT body-callK.r κs .Denot) (s t : AtExit (endedOf 2 body-callK.ps body-callK.r) κs)
+    → body-callR.Post κs a x s → body-callR.Post κs a y t → (s .0 .now ≡ t .0 .now) × (x ≡ y)
+body-call κs a x y s t p q = some-one _ _ _ _ _ _ _ (λ t u. called-one _ _ t u) p q
 
 pub listing : (κs : Lfts 2) (a : Dens κs listingK.ps) (x y : resT listingK.r κs .Denot) (s t : AtExit (endedOf 2 listingK.ps listingK.r) κs)
     → listingR.Post κs a x s → listingR.Post κs a y t → (s .0 .now ≡ t .0 .now) × (x ≡ y)

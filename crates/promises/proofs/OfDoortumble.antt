@@ -1,20 +1,19 @@
--- `doortumble` and `checksum_call`: each C call allows one answer word and one content of the lent words. Assumes nothing.
+-- `doortumble`, `checksum_call` and `sheet_call`: each C call allows one answer word and one content of the lent words. Assumes nothing.
 use mathlib.Core.Path.{_≡_, sym, ap, _∙_}
 use contract.Lifetimes.{Lfts}
 use borrow.Fn.Kinds.{Dens, resT, endedOf}
 use denote.Triple.Clauses.{AtExit}
 use Rattle.record.specs.Chunk.{fieldsAt}
 use Rattle.log_file.specs.Header.{fileAt}
+use Rattle.body.specs.Verdict.{Both}
 use Rattle.body.proofs.One.{one-answer}
 use Rattle.doortumble.specs.Calls.{packedOf}
-use Rattle.doortumble.proofs.doortumble_sheet.Kinds as sheetK
-use Rattle.doortumble.proofs.doortumble_sheet.Reads as sheetR
+use Rattle.doortumble.proofs.doortumble_body.Kinds as bodyK
+use Rattle.doortumble.proofs.doortumble_body.Reads as bodyR
 use Rattle.doortumble.proofs.doortumble_widen.Kinds as widenK
 use Rattle.doortumble.proofs.doortumble_widen.Reads as widenR
 use Rattle.doortumble.proofs.doortumble_narrow.Kinds as narrowK
 use Rattle.doortumble.proofs.doortumble_narrow.Reads as narrowR
-use Rattle.doortumble.proofs.doortumble_owners.Kinds as ownersK
-use Rattle.doortumble.proofs.doortumble_owners.Reads as ownersR
 use Rattle.doortumble.proofs.doortumble_list.Kinds as listK
 use Rattle.doortumble.proofs.doortumble_list.Reads as listR
 use Rattle.doortumble.proofs.doortumble_list_file.Kinds as fileK
@@ -25,13 +24,18 @@ use Rattle.doortumble.proofs.doortumble_file_header.Kinds as fileHeaderK
 use Rattle.doortumble.proofs.doortumble_file_header.Reads as fileHeaderR
 use Rattle.checksum_call.proofs.doortumble_bench_checksum.Kinds as checksumK
 use Rattle.checksum_call.proofs.doortumble_bench_checksum.Reads as checksumR
+use Rattle.sheet_call.proofs.doortumble_bench_sheet.Kinds as sheetK
+use Rattle.sheet_call.proofs.doortumble_bench_sheet.Reads as sheetR
 use Rattle.promises.proofs.OfChunk.{lists-by}
 use Rattle.promises.proofs.OfLogFile.{file-lists-by}
 use Rattle.promises.proofs.One.{Single}
 
-pub sheet : (κs : Lfts 2) (a : Dens κs sheetK.ps) (x y : resT sheetK.r κs .Denot) (s t : AtExit (endedOf 2 sheetK.ps sheetK.r) κs)
-    → sheetR.Post κs a x s → sheetR.Post κs a y t → (x ≡ y) × (s .1 .1 .1 .1 .1 .0 .now ≡ t .1 .1 .1 .1 .1 .0 .now)
-sheet κs a x y s t p q = (p .0 ∙ sym (q .0), p .1 ∙ sym (q .1))
+pub body : (κs : Lfts 3) (a : Dens κs bodyK.ps) (x y : resT bodyK.r κs .Denot) (s t : AtExit (endedOf 3 bodyK.ps bodyK.r) κs)
+    → bodyR.Post κs a x s → bodyR.Post κs a y t
+    → (x ≡ y) × (s .1 .1 .1 .1 .1 .0 .now ≡ t .1 .1 .1 .1 .1 .0 .now) × (s .1 .1 .1 .1 .1 .1 .0 .now ≡ t .1 .1 .1 .1 .1 .1 .0 .now)
+body κs a x y s t p q =
+    let e = one-answer _ _ _ (p .1 .1) (q .1 .1) in
+    (p .1 .0 ∙ ap packedOf (e .0) ∙ sym (q .1 .0), ap (λ (b : Both). b .sheet) (e .1), ap (λ (b : Both). b .table) (e .1))
 
 pub widen : (κs : Lfts 3) (a : Dens κs widenK.ps) (x y : resT widenK.r κs .Denot) (s t : AtExit (endedOf 3 widenK.ps widenK.r) κs)
     → widenR.Post κs a x s → widenR.Post κs a y t → (x ≡ y) × (s .1 .1 .1 .1 .1 .1 .0 .now ≡ t .1 .1 .1 .1 .1 .1 .0 .now)
@@ -40,12 +44,6 @@ widen κs a x y s t p q = (p .0 ∙ sym (q .0), p .1 ∙ sym (q .1))
 pub narrow : (κs : Lfts 3) (a : Dens κs narrowK.ps) (x y : resT narrowK.r κs .Denot) (s t : AtExit (endedOf 3 narrowK.ps narrowK.r) κs)
     → narrowR.Post κs a x s → narrowR.Post κs a y t → (x ≡ y) × (s .1 .1 .1 .1 .1 .1 .0 .now ≡ t .1 .1 .1 .1 .1 .1 .0 .now)
 narrow κs a x y s t p q = (p .0 ∙ sym (q .0), p .1 ∙ sym (q .1))
-
-pub owners : (κs : Lfts 2) (a : Dens κs ownersK.ps) (x y : resT ownersK.r κs .Denot) (s t : AtExit (endedOf 2 ownersK.ps ownersK.r) κs)
-    → ownersR.Post κs a x s → ownersR.Post κs a y t → (x ≡ y) × (s .1 .1 .1 .1 .1 .0 .now ≡ t .1 .1 .1 .1 .1 .0 .now)
-owners κs a x y s t p q =
-    let e = one-answer _ _ _ (p .1 .1) (q .1 .1) in
-    (p .1 .0 ∙ ap packedOf (e .0) ∙ sym (q .1 .0), e .1)
 
 pub list : (κs : Lfts 2) (a : Dens κs listK.ps) (x y : resT listK.r κs .Denot) (s t : AtExit (endedOf 2 listK.ps listK.r) κs)
     → listR.Post κs a x s → listR.Post κs a y t → (x ≡ y) × (s .1 .1 .0 .now ≡ t .1 .1 .0 .now)
@@ -69,3 +67,7 @@ file-header κs a x y s t p q = (p .0 ∙ sym (q .0), p .1 ∙ sym (q .1))
 
 pub checksum : Single 1 checksumK.ps checksumK.r checksumR.Post
 checksum κs a x y s t p q = p ∙ sym q
+
+pub bench-sheet : (κs : Lfts 2) (a : Dens κs sheetK.ps) (x y : resT sheetK.r κs .Denot) (s t : AtExit (endedOf 2 sheetK.ps sheetK.r) κs)
+    → sheetR.Post κs a x s → sheetR.Post κs a y t → (x ≡ y) × (s .1 .1 .1 .1 .1 .0 .now ≡ t .1 .1 .1 .1 .1 .0 .now)
+bench-sheet κs a x y s t p q = (p .0 ∙ sym (q .0), p .1 ∙ sym (q .1))

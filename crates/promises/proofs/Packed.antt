@@ -7,6 +7,7 @@ use native.Mathlib.Omega.{arith}
 use lib.Dec.{eqb, leb}
 use lib.ListN.{length, length-map}
 use Rattle.cursor.specs.Answer.{Answer, given, refused, Result, gives, refuses, must}
+use Rattle.cursor.specs.Lent.{lentAnswer}
 use Rattle.cursor.specs.Reads.{little, startsWith}
 use Rattle.cursor.specs.Refusals.{wrongLength, wrongMagic}
 use Rattle.cursor.proofs.Choice.{either}
@@ -17,15 +18,16 @@ use Rattle.tokens.specs.Table.{gistAt}
 use Rattle.tokens.specs.Walk.{Walked, ok, bad, turnAt, stepFrom, walkFrom, walkOf}
 use Rattle.tokens.specs.declared.Flags.{Flags}
 use Rattle.tokens.specs.declared.Token.{Token}
-use Rattle.sheet.specs.Sheet.{wordsOf, sheetAnswer, markOf, marksOf}
+use Rattle.sheet.specs.Sheet.{wordsOf, markOf, marksOf}
 use Rattle.sheet.proofs.Laying.{words-length}
-use Rattle.body.specs.Verdict.{Refuses, no-body, too-deep, disagreeing, unfinished-body, a-body, Judged, unread, read, tableAnswer, Answered}
+use Rattle.body.specs.Verdict.{Refuses, no-body, too-deep, disagreeing, unfinished-body, a-body, Judged, unread, read, Both, both, bothOf, followed, bothAnswer, Answered}
 use Rattle.body.specs.Verdict as verdict
+use Rattle.body.proofs.Answers.{answerOf}
 use Rattle.chunk.specs.Walk.{Choose, startOf}
 use Rattle.chunk.specs.Listing.{rowsOf, listsOn, Lists}
 use Rattle.chunk.proofs.Laying.{rows-length}
 use Rattle.chunk.proofs.Whole.{most-answers}
-use Rattle.doortumble.specs.Calls.{flagsOf, packedOf, OwnersPacked, ListPacked}
+use Rattle.doortumble.specs.Calls.{flagsOf, packedOf, BodyPacked, ListPacked}
 use Rattle.promises.specs.Packed.{unpackedOf, Bytes, farStream}
 use Rattle.promises.proofs.Fits.{Small, Fits, on}
 use Rattle.promises.proofs.FitsWalk.{WalkFits, walk-fits}
@@ -54,13 +56,7 @@ answer-kept (refuses k p) h =
 pub small-bits : (k p : ℕ) → Small k p → InBits (refuses k p)
 small-bits k p h = (h .0, omega (arith, h .1))
 
--- the sheet: the walk's own refusal, or a number of tokens
-sheet-bits : (w : Walked) (lent : List ℕ) → WalkFits 65536 w → InBits (sheetAnswer w lent)
-sheet-bits (ok l) lent h =
-    either InBits (leb (length (wordsOf l)) (length lent)) _ _ (λ e. omega arith) (λ e. (omega arith, omega (arith, words-length l)))
-sheet-bits (bad k p) lent h = small-bits k p h
-
--- the owner table: a refusal by the grammar has a token's number for its place, or the number of tokens
+-- sheet and owner table: a refusal by the grammar has a token's number for its place, or the number of tokens
 grammar-small : (marks : List ℕ) {k p : ℕ} → Refuses marks k p → length marks ≤ 65536 → Small k p
 grammar-small marks (no-body i x) h = (omega arith, omega (arith, x .there))
 grammar-small marks (too-deep i x) h = (omega arith, omega (arith, x .there))
@@ -70,15 +66,17 @@ grammar-small marks (unfinished-body x) h = (omega arith, omega arith)
 marks-short : (l : List Token) → length l ≤ 65536 → length (marksOf l) ≤ 65536
 marks-short l h = omega (arith, length-map l markOf)
 
-verdict-bits : (lent : List ℕ) {w : Walked} {v : Result (List ℕ)} → Judged w v → WalkFits 65536 w → InBits (tableAnswer v lent)
+verdict-bits : (lent : Both) {w : Walked} {v : Result (List ℕ)} → Judged w v → WalkFits 65536 w → InBits (bothAnswer (bothOf w v) lent)
 verdict-bits lent (unread k p) h = small-bits k p h
 verdict-bits lent (read l v (a-body words x)) h =
     let n = marks-short l h in
-    either InBits (leb (length words) (length lent)) _ _ (λ e. omega (arith, x .each)) (λ e. (omega arith, omega (arith, x .each)))
+    either (λ (a : Result ℕ). InBits (followed a (lentAnswer (gives words) (lent .table)))) (leb (length (wordsOf l)) (length (lent .sheet))) _ _
+    (λ e. either InBits (leb (length words) (length (lent .table))) _ _ (λ d. omega (arith, x .each)) (λ d. (omega arith, omega (arith, x .each))))
+    (λ e. (omega arith, omega (arith, words-length l)))
 verdict-bits lent (read l v (verdict.refused k p x)) h = small-bits k p (grammar-small (marksOf l) x (marks-short l h))
 
-owners-bits : (lent left : List ℕ) {w : Walked} {o : Result ℕ} → Answered lent left w o → WalkFits 65536 w → InBits o
-owners-bits lent left x h = subst InBits (sym (x .answer)) (verdict-bits lent (x .judged) h)
+body-bits : (lent left : Both) {w : Walked} {o : Result ℕ} → Answered lent left w o → WalkFits 65536 w → InBits o
+body-bits lent left x h = subst InBits (sym (x .answer)) (verdict-bits lent (x .judged) h)
 
 -- the listing: a chunk is refused at 0; and there are at most 4,645 answers of five words each
 pub must-fits : (b : Bool) (k : ℕ) → k < 2 ^ 7 → Fits 65536 (must b k 0)
@@ -104,21 +102,15 @@ list-bits s recovery lent left c (refused k p) e f (x, y) = subst InBits (sym x)
 
 -- A stream of bytes, from a start of 32 bits: every answer of the walk, whatever the length and the flags say.
 module _ (s : List ℕ) (bytes : Bytes s) (start len : ℕ) (u32 : start < 2 ^ 32) (f : Flags) where
-  -- the sheet's answer comes back
-  pub sheet-kept : (lent : List ℕ) → unpackedOf (packedOf (sheetAnswer (walkOf s start len f) lent)) ≡ sheetAnswer (walkOf s start len f) lent
-  sheet-kept lent =
-      let w = walkOf s start len f in
-      answer-kept (sheetAnswer w lent) (sheet-bits w lent (walk-fits s bytes start len f u32))
-
-  -- and every answer of the owner table
-  pub owners-kept : (lent left : List ℕ) (c : Result ℕ) → Answered lent left (walkOf s start len f) c → unpackedOf (packedOf c) ≡ c
-  owners-kept lent left c x = answer-kept c (owners-bits lent left x (walk-fits s bytes start len f u32))
+  -- the answer for sheet and owner table comes back
+  pub body-kept : (lent left : Both) (c : Result ℕ) → Answered lent left (walkOf s start len f) c → unpackedOf (packedOf c) ≡ c
+  body-kept lent left c x = answer-kept c (body-bits lent left x (walk-fits s bytes start len f u32))
 
   -- so what a caller takes from the call's word is the answer that the definition allows
-  pub owners-told : (lent left : List ℕ) (word : ℕ) → OwnersPacked (walkOf s start len f) lent left word
+  pub body-told : (lent left : Both) (word : ℕ) → BodyPacked (walkOf s start len f) lent left word
       → Answered lent left (walkOf s start len f) (unpackedOf word)
-  owners-told lent left word (c, (e, x)) =
-      subst (Answered lent left (walkOf s start len f)) (sym (ap unpackedOf e ∙ owners-kept lent left c x)) x
+  body-told lent left word (c, (e, x)) =
+      subst (Answered lent left (walkOf s start len f)) (sym (ap unpackedOf e ∙ body-kept lent left c x)) x
 
 -- the listing's answer, of any slice
 pub list-kept : (s : List ℕ) (recovery : Bool) (lent left : List ℕ) (c : Result ℕ) → Lists s (startOf recovery) lent left c
@@ -131,6 +123,6 @@ list-told s recovery lent left word (c, (e, x)) =
     subst (Lists s (startOf recovery) lent left) (sym (ap unpackedOf e ∙ list-kept s recovery lent left c x)) x
 
 -- places past 2^32 are met, so that 32 bits would not do
-pub far-place : unpackedOf (packedOf (sheetAnswer (walkOf farStream 0 34 (flagsOf 0 0)) [])) ≡ refuses 2 (2 ^ 32 + 33)
+pub far-place : unpackedOf (packedOf (answerOf (walkOf farStream 0 34 (flagsOf 0 0)) (both [] []))) ≡ refuses 2 (2 ^ 32 + 33)
 unfolding little gistAt tableAt valuesAt turnAt stepFrom walkFrom walkOf
 far-place = refl

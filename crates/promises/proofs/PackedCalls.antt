@@ -9,22 +9,20 @@ use lib.ListN.{length}
 use Rattle.cursor.specs.Lent.{lentAnswer}
 use Rattle.record.specs.Chunk.{headerWords}
 use Rattle.tokens.specs.Walk.{walkOf}
-use Rattle.sheet.specs.Sheet.{wordsOf, sheetAnswer}
+use Rattle.sheet.specs.Sheet.{wordsOf}
 use Rattle.sheet.specs.Kept.{oldWordsOf, keptAnswer}
-use Rattle.body.specs.Verdict.{Answered}
+use Rattle.body.specs.Verdict.{both, Answered}
 use Rattle.chunk.specs.Walk.{startOf}
 use Rattle.chunk.specs.Listing.{Lists}
 use Rattle.log_file.specs.Header.{fileWords}
 use Rattle.log_file.specs.Listing.{FileLists}
 use Rattle.doortumble.specs.Calls.{flagOf, flagsOf}
-use Rattle.doortumble.proofs.doortumble_sheet.Kinds as sheetK
-use Rattle.doortumble.proofs.doortumble_sheet.Reads as sheetR
+use Rattle.doortumble.proofs.doortumble_body.Kinds as bodyK
+use Rattle.doortumble.proofs.doortumble_body.Reads as bodyR
 use Rattle.doortumble.proofs.doortumble_widen.Kinds as widenK
 use Rattle.doortumble.proofs.doortumble_widen.Reads as widenR
 use Rattle.doortumble.proofs.doortumble_narrow.Kinds as narrowK
 use Rattle.doortumble.proofs.doortumble_narrow.Reads as narrowR
-use Rattle.doortumble.proofs.doortumble_owners.Kinds as ownersK
-use Rattle.doortumble.proofs.doortumble_owners.Reads as ownersR
 use Rattle.doortumble.proofs.doortumble_list.Kinds as listK
 use Rattle.doortumble.proofs.doortumble_list.Reads as listR
 use Rattle.doortumble.proofs.doortumble_list_file.Kinds as fileK
@@ -34,16 +32,16 @@ use Rattle.doortumble.proofs.doortumble_chunk_header.Reads as chunkHeaderR
 use Rattle.doortumble.proofs.doortumble_file_header.Kinds as fileHeaderK
 use Rattle.doortumble.proofs.doortumble_file_header.Reads as fileHeaderR
 use Rattle.promises.specs.Packed.{unpackedOf, Bytes}
-use Rattle.promises.proofs.Packed.{sheet-kept, owners-told, list-told}
+use Rattle.promises.proofs.Packed.{body-told, list-told}
 use Rattle.promises.proofs.PackedFile.{list-file-told}
 use Rattle.promises.proofs.PackedHeader.{chunk-header-kept, file-header-kept}
 use Rattle.promises.proofs.PackedKept.{widen-kept, narrow-kept}
 
-pub sheet : (κs : Lfts 2) (a : Dens κs sheetK.ps) (x : resT sheetK.r κs .Denot) (s : AtExit (endedOf 2 sheetK.ps sheetK.r) κs)
-    → GoodsP κs sheetK.ps a → Bytes (a .0 .now) → sheetR.Post κs a x s
-    → unpackedOf x
-    ≡ sheetAnswer (walkOf (a .0 .now) (a .1 .0) (a .1 .1 .0) (flagsOf (a .1 .1 .1 .0) (a .1 .1 .1 .1 .0))) (a .1 .1 .1 .1 .1 .0 .now)
-sheet κs a x s g b p = ap unpackedOf (p .0) ∙ sheet-kept (a .0 .now) b (a .1 .0) _ (g .1 .0 .1) _ _
+pub body : (κs : Lfts 3) (a : Dens κs bodyK.ps) (x : resT bodyK.r κs .Denot) (s : AtExit (endedOf 3 bodyK.ps bodyK.r) κs)
+    → GoodsP κs bodyK.ps a → Bytes (a .0 .now) → bodyR.Post κs a x s
+    → Answered (both (a .1 .1 .1 .1 .1 .0 .now) (a .1 .1 .1 .1 .1 .1 .0 .now)) (both (s .1 .1 .1 .1 .1 .0 .now) (s .1 .1 .1 .1 .1 .1 .0 .now))
+    (walkOf (a .0 .now) (a .1 .0) (a .1 .1 .0) (flagsOf (a .1 .1 .1 .0) (a .1 .1 .1 .1 .0))) (unpackedOf x)
+body κs a x s g b p = body-told (a .0 .now) b (a .1 .0) _ (g .1 .0 .1) _ _ _ x p
 
 pub widen : (κs : Lfts 3) (a : Dens κs widenK.ps) (x : resT widenK.r κs .Denot) (s : AtExit (endedOf 3 widenK.ps widenK.r) κs)
     → GoodsP κs widenK.ps a → Bytes (a .0 .now) → widenR.Post κs a x s
@@ -56,12 +54,6 @@ pub narrow : (κs : Lfts 3) (a : Dens κs narrowK.ps) (x : resT narrowK.r κs .D
     → unpackedOf x
     ≡ keptAnswer wordsOf oldWordsOf (walkOf (a .0 .now) (a .1 .0) (a .1 .1 .0) (flagsOf (a .1 .1 .1 .0) (a .1 .1 .1 .1 .0))) (a .1 .1 .1 .1 .1 .0 .now) (a .1 .1 .1 .1 .1 .1 .0 .now)
 narrow κs a x s g b p = ap unpackedOf (p .0) ∙ narrow-kept (a .0 .now) b (a .1 .0) _ (g .1 .0 .1) _ _ _
-
-pub owners : (κs : Lfts 2) (a : Dens κs ownersK.ps) (x : resT ownersK.r κs .Denot) (s : AtExit (endedOf 2 ownersK.ps ownersK.r) κs)
-    → GoodsP κs ownersK.ps a → Bytes (a .0 .now) → ownersR.Post κs a x s
-    → Answered (a .1 .1 .1 .1 .1 .0 .now) (s .1 .1 .1 .1 .1 .0 .now)
-    (walkOf (a .0 .now) (a .1 .0) (a .1 .1 .0) (flagsOf (a .1 .1 .1 .0) (a .1 .1 .1 .1 .0))) (unpackedOf x)
-owners κs a x s g b p = owners-told (a .0 .now) b (a .1 .0) _ (g .1 .0 .1) _ _ _ x p
 
 pub list : (κs : Lfts 2) (a : Dens κs listK.ps) (x : resT listK.r κs .Denot) (s : AtExit (endedOf 2 listK.ps listK.r) κs)
     → listR.Post κs a x s → Lists (a .0 .now) (startOf (flagOf (a .1 .0))) (a .1 .1 .0 .now) (s .1 .1 .0 .now) (unpackedOf x)

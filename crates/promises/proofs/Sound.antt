@@ -20,7 +20,7 @@ use Rattle.name.specs.declared.Soundness.{Soundness}
 use Rattle.tokens.specs.Walk.{Walked, ok, bad}
 use Rattle.tokens.specs.declared.Token.{Token}
 use Rattle.sheet.specs.Sheet.{wordsOfToken, wordsOf, marksOf, markOf, sheetAnswer, sheetWords}
-use Rattle.body.specs.Verdict.{Verdict, Judged, read}
+use Rattle.body.specs.Verdict.{Verdict, Judged, read, Both, both, bothOf, bothAnswer, bothLeft}
 use Rattle.promises.proofs.Bodies.{on-tokens}
 use Rattle.promises.specs.Sound.{Paired, ViewTold, tokenAs, walkAs, SameSheet}
 
@@ -162,12 +162,32 @@ module _ (sound : Token → Bool) (soundness : Token → Soundness) where
   judged-back (ok l) v j = read l v (subst (λ (marks : List ℕ). Verdict marks v) (kinds-same l) (on-tokens (map other l) v j))
   judged-back (bad k p) v j = j
 
+  both-same : (w : Walked) (v : Result (List ℕ)) → bothOf (walkAs sound soundness w) v ≡ bothOf w v
+  both-same (ok l) (gives owners) = ap (λ (words : List ℕ). gives (both words owners)) (words-same l)
+  both-same (ok l) (refuses k p) = refl
+  both-same (bad k p) (gives owners) = refl
+  both-same (bad k p) (refuses m q) = refl
+
   -- a sheet, its refusals with their places, and an owner table do not depend on it
   pub soundness-unseen : (w : Walked) → SameSheet (walkAs sound soundness w) w
   soundness-unseen w =
       record {
         answer = answer-same w;
         words = left-same w;
-        owners = λ lent left o a. record { verdict = a .verdict; judged = judged-back w (a .verdict) (a .judged); answer = a .answer; table = a .table };
-        owners-too = λ lent left o a. record { verdict = a .verdict; judged = judged-as w (a .verdict) (a .judged); answer = a .answer; table = a .table };
+        body = λ lent left o a.
+            let e = both-same w (a .verdict) in
+            record {
+              verdict = a .verdict;
+              judged = judged-back w (a .verdict) (a .judged);
+              answer = a .answer ∙ ap (λ (b : Result Both). bothAnswer b lent) e;
+              buffers = a .buffers ∙ ap (λ (b : Result Both). bothLeft b lent) e;
+            };
+        body-too = λ lent left o a.
+            let e = sym (both-same w (a .verdict)) in
+            record {
+              verdict = a .verdict;
+              judged = judged-as w (a .verdict) (a .judged);
+              answer = a .answer ∙ ap (λ (b : Result Both). bothAnswer b lent) e;
+              buffers = a .buffers ∙ ap (λ (b : Result Both). bothLeft b lent) e;
+            };
       }

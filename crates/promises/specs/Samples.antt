@@ -17,7 +17,7 @@ use Rattle.tokens.specs.declared.Held.{Held}
 use Rattle.tokens.specs.declared.Held.the-variants as H
 use Rattle.tokens.specs.declared.Token.{Token}
 use Rattle.sheet.specs.Sheet.{wordsOf, sheetAnswer, sheetWords}
-use Rattle.body.specs.Verdict.{Answered}
+use Rattle.body.specs.Verdict.{Both, both, Answered}
 
 -- a stream, and how it is read
 pub record Stream : Type 0 where
@@ -72,8 +72,8 @@ pub data Sample : Type 0 where
   reads : Stream → Given → Sample
   -- a lent sheet, the answer, and what is left of the sheet
   sheets : Stream → List ℕ → Result ℕ → List ℕ → Sample
-  -- "as a body": the lent table, the answer, and what is left of the table
-  bodies : Stream → List ℕ → Result ℕ → List ℕ → Sample
+  -- "as a body": the lent sheet and table, the answer, and what is left of both
+  bodies : Stream → Both → Result ℕ → Both → Sample
   -- "value at", "walk at"
   values : Stream → ℕ → ℕ → Sample
   -- "hash": of the units of these bytes
@@ -136,21 +136,22 @@ unfoldable pub samples : List Sample
 samples =
     -- "empty, length 0: read; as a body 15 at 0"
     reads (whole []) (words []) ∷
-    bodies (whole []) (9 ∷ []) (refuses 15 0) (9 ∷ []) ∷
+    bodies (whole []) (both (9 ∷ []) (9 ∷ [])) (refuses 15 0) (both (9 ∷ []) (9 ∷ [])) ∷
     -- "empty, length 1: 3 at 0"
     reads (record { bytes = []; start = 0; len = 1; dependencies = false; inline = false }) (stopped 3 0) ∷
-    bodies (record { bytes = []; start = 0; len = 1; dependencies = false; inline = false }) (9 ∷ []) (refuses 3 0) (9 ∷ []) ∷
+    bodies (record { bytes = []; start = 0; len = 1; dependencies = false; inline = false }) (both (9 ∷ []) (9 ∷ [])) (refuses 3 0) (both (9 ∷ []) (9 ∷ [])) ∷
     -- "empty, start 1: 2 at 1"
     reads (record { bytes = []; start = 1; len = 0; dependencies = false; inline = false }) (stopped 2 1) ∷
     -- "`10`: 9 at 1"
     reads (whole (0x10 ∷ [])) (stopped 9 1) ∷
     -- "sheet 2000000024000000, 4000480004000000; owners 0, 1": the name stands at 0x200, and the second token has none; a word past them
-    -- stays; with one word lent for owners, 16 with two needed, and with three for the sheet, 16 with four needed
+    -- stays; with one word lent for owners, 16 with two needed, and with three for the sheet, 16 with four needed, which comes first
     reads (whole emptyElement) (words (0x2000000024000000 ∷ 0x0000020000000000 ∷ 0x4000480004000000 ∷ 0 ∷ [])) ∷
     sheets (whole emptyElement) (9 ∷ 9 ∷ 9 ∷ 9 ∷ 9 ∷ []) (gives 2) (0x2000000024000000 ∷ 0x0000020000000000 ∷ 0x4000480004000000 ∷ 0 ∷ 9 ∷ []) ∷
     sheets (whole emptyElement) (9 ∷ 9 ∷ 9 ∷ []) (refuses 16 4) (9 ∷ 9 ∷ 9 ∷ []) ∷
-    bodies (whole emptyElement) (9 ∷ 9 ∷ 9 ∷ []) (gives 2) (0 ∷ 1 ∷ 9 ∷ []) ∷
-    bodies (whole emptyElement) (9 ∷ []) (refuses 16 2) (9 ∷ []) ∷
+    bodies (whole emptyElement) (both (9 ∷ 9 ∷ 9 ∷ 9 ∷ 9 ∷ []) (9 ∷ 9 ∷ 9 ∷ [])) (gives 2) (both (0x2000000024000000 ∷ 0x0000020000000000 ∷ 0x4000480004000000 ∷ 0 ∷ 9 ∷ []) (0 ∷ 1 ∷ 9 ∷ [])) ∷
+    bodies (whole emptyElement) (both (9 ∷ 9 ∷ 9 ∷ 9 ∷ []) (9 ∷ [])) (refuses 16 2) (both (9 ∷ 9 ∷ 9 ∷ 9 ∷ []) (9 ∷ [])) ∷
+    bodies (whole emptyElement) (both (9 ∷ 9 ∷ 9 ∷ []) (9 ∷ [])) (refuses 16 4) (both (9 ∷ 9 ∷ 9 ∷ []) (9 ∷ [])) ∷
     -- with 41: four bytes more, and the announced bit
     reads (whole announcedElement) (words (0x2000000034000100 ∷ 0x0000020000000000 ∷ 0x4000680004000000 ∷ 0 ∷ [])) ∷
     -- "With dependency and `FFFF` after 01: flag 0, number 0; with `0000`: flag 1."
@@ -158,7 +159,7 @@ samples =
     reads (withDependency (0x01 ∷ 0 ∷ 0 ∷ 0 ∷ 0 ∷ 0 ∷ 0 ∷ 0 ∷ 2 ∷ 0 ∷ 0 ∷ 0x03 ∷ 0 ∷ [])) (words (0x200000002C000200 ∷ 0x0000020000000000 ∷ 0x4000580004000000 ∷ 0 ∷ [])) ∷
     -- "read; as a body 13 at 0"
     reads (whole loneValue) (words (0x6000000020000000 ∷ 0 ∷ [])) ∷
-    bodies (whole loneValue) (9 ∷ []) (refuses 13 0) (9 ∷ []) ∷
+    bodies (whole loneValue) (both (9 ∷ []) (9 ∷ [])) (refuses 13 0) (both (9 ∷ []) (9 ∷ [])) ∷
     -- "inline `41 00` `42 00`: hash 1041"
     hashes (0x41 ∷ 0 ∷ 0x42 ∷ 0 ∷ []) 0x1041 ∷
     -- and the attribute that has this name: `06 4110 0200 4100 4200 0000`, read with names inline; it starts at 1
@@ -166,7 +167,7 @@ samples =
     -- "value at 18, walk at 22"; as a body it has no owner
     reads (whole (anInstance 2 0x08 (0x2A ∷ 0 ∷ 0 ∷ 0 ∷ []))) (words (0x1000000058000000 ∷ 0 ∷ [])) ∷
     values (whole (anInstance 2 0x08 (0x2A ∷ 0 ∷ 0 ∷ 0 ∷ []))) 18 22 ∷
-    bodies (whole (anInstance 2 0x08 (0x2A ∷ 0 ∷ 0 ∷ 0 ∷ []))) (9 ∷ []) (gives 1) (0 ∷ []) ∷
+    bodies (whole (anInstance 2 0x08 (0x2A ∷ 0 ∷ 0 ∷ 0 ∷ []))) (both (9 ∷ 9 ∷ []) (9 ∷ [])) (gives 1) (both (0x1000000058000000 ∷ 0 ∷ []) (0 ∷ [])) ∷
     -- "Size 6: 24 bytes suffice; with 23, 2 at 24."
     reads (whole (anInstance 6 0x08 (0x2A ∷ 0 ∷ 0 ∷ 0 ∷ 0 ∷ 0 ∷ []))) (words (0x1000000060000000 ∷ 0 ∷ [])) ∷
     reads (whole (anInstance 6 0x08 (0x2A ∷ 0 ∷ 0 ∷ 0 ∷ 0 ∷ []))) (stopped 2 24) ∷
@@ -177,25 +178,25 @@ samples =
     singles (0x0F ∷ 1 ∷ 1 ∷ 0 ∷ 0x0C ∷ 0 ∷ []) (just 5) ∷
     singles (0x0C ∷ []) (just 1) ∷
     -- P4: "a lone pair is unfinished", and a target alone; "two leading pairs are refused 13 at the second target"
-    bodies (whole (aPair [])) (9 ∷ []) (refuses 15 2) (9 ∷ []) ∷
-    bodies (whole (aTarget [])) (9 ∷ []) (refuses 15 1) (9 ∷ []) ∷
-    bodies (whole (aPair (aPair (anElement [])))) (9 ∷ []) (refuses 13 2) (9 ∷ []) ∷
+    bodies (whole (aPair [])) (both (9 ∷ []) (9 ∷ [])) (refuses 15 2) (both (9 ∷ []) (9 ∷ [])) ∷
+    bodies (whole (aTarget [])) (both (9 ∷ []) (9 ∷ [])) (refuses 15 1) (both (9 ∷ []) (9 ∷ [])) ∷
+    bodies (whole (aPair (aPair (anElement [])))) (both (9 ∷ []) (9 ∷ [])) (refuses 13 2) (both (9 ∷ []) (9 ∷ [])) ∷
     -- a pair before, after and on both sides of an element and of an instance: "those outer tokens have no owner"
-    bodies (whole (aPair (anElement []))) (9 ∷ 9 ∷ 9 ∷ 9 ∷ 9 ∷ []) (gives 4) (0 ∷ 0 ∷ 0 ∷ 3 ∷ 9 ∷ []) ∷
-    bodies (whole (anElement (aPair []))) (9 ∷ 9 ∷ 9 ∷ 9 ∷ 9 ∷ []) (gives 4) (0 ∷ 1 ∷ 0 ∷ 0 ∷ 9 ∷ []) ∷
-    bodies (whole (aPair (anElement (aPair [])))) (9 ∷ 9 ∷ 9 ∷ 9 ∷ 9 ∷ 9 ∷ []) (gives 6) (0 ∷ 0 ∷ 0 ∷ 3 ∷ 0 ∷ 0 ∷ []) ∷
-    bodies (whole (aPair (anInstance 2 0x08 (0x2A ∷ 0 ∷ 0 ∷ 0 ∷ aPair [])))) (9 ∷ 9 ∷ 9 ∷ 9 ∷ 9 ∷ []) (gives 5) (0 ∷ 0 ∷ 0 ∷ 0 ∷ 0 ∷ []) ∷
+    bodies (whole (aPair (anElement []))) (both (9 ∷ 9 ∷ 9 ∷ 9 ∷ 9 ∷ 9 ∷ 9 ∷ 9 ∷ 9 ∷ []) (9 ∷ 9 ∷ 9 ∷ 9 ∷ 9 ∷ [])) (gives 4) (both (0x9000000014000000 ∷ 0x0000020000000000 ∷ 0xA00028000C000000 ∷ 0 ∷ 0x2000400024000000 ∷ 0x0000020000000000 ∷ 0x4000880004000000 ∷ 0 ∷ 9 ∷ []) (0 ∷ 0 ∷ 0 ∷ 3 ∷ 9 ∷ [])) ∷
+    bodies (whole (anElement (aPair []))) (both (9 ∷ 9 ∷ 9 ∷ 9 ∷ 9 ∷ 9 ∷ 9 ∷ 9 ∷ 9 ∷ []) (9 ∷ 9 ∷ 9 ∷ 9 ∷ 9 ∷ [])) (gives 4) (both (0x2000000024000000 ∷ 0x0000020000000000 ∷ 0x4000480004000000 ∷ 0 ∷ 0x9000500014000000 ∷ 0x0000020000000000 ∷ 0xA00078000C000000 ∷ 0 ∷ 9 ∷ []) (0 ∷ 1 ∷ 0 ∷ 0 ∷ 9 ∷ [])) ∷
+    bodies (whole (aPair (anElement (aPair [])))) (both (9 ∷ 9 ∷ 9 ∷ 9 ∷ 9 ∷ 9 ∷ 9 ∷ 9 ∷ 9 ∷ 9 ∷ 9 ∷ 9 ∷ []) (9 ∷ 9 ∷ 9 ∷ 9 ∷ 9 ∷ 9 ∷ [])) (gives 6) (both (0x9000000014000000 ∷ 0x0000020000000000 ∷ 0xA00028000C000000 ∷ 0 ∷ 0x2000400024000000 ∷ 0x0000020000000000 ∷ 0x4000880004000000 ∷ 0 ∷ 0x9000900014000000 ∷ 0x0000020000000000 ∷ 0xA000B8000C000000 ∷ 0 ∷ []) (0 ∷ 0 ∷ 0 ∷ 3 ∷ 0 ∷ 0 ∷ [])) ∷
+    bodies (whole (aPair (anInstance 2 0x08 (0x2A ∷ 0 ∷ 0 ∷ 0 ∷ aPair [])))) (both (9 ∷ 9 ∷ 9 ∷ 9 ∷ 9 ∷ 9 ∷ 9 ∷ 9 ∷ 9 ∷ 9 ∷ []) (9 ∷ 9 ∷ 9 ∷ 9 ∷ 9 ∷ [])) (gives 5) (both (0x9000000014000000 ∷ 0x0000020000000000 ∷ 0xA00028000C000000 ∷ 0 ∷ 0x1000400058000000 ∷ 0 ∷ 0x9000F00014000000 ∷ 0x0000020000000000 ∷ 0xA00118000C000000 ∷ 0 ∷ []) (0 ∷ 0 ∷ 0 ∷ 0 ∷ 0 ∷ [])) ∷
     -- and nothing follows the second pair
-    bodies (whole (anElement (aPair (aTarget [])))) (9 ∷ []) (refuses 13 4) (9 ∷ []) ∷
+    bodies (whole (anElement (aPair (aTarget [])))) (both (9 ∷ []) (9 ∷ [])) (refuses 13 4) (both (9 ∷ []) (9 ∷ [])) ∷
     -- P5: "An open byte of 01 followed by an attribute is refused at the attribute"; "41 followed by a close without any is refused at that
     -- close token", a close empty or a close start
-    bodies (whole (plainOpen (anAttribute (0x03 ∷ [])))) (9 ∷ 9 ∷ 9 ∷ []) (refuses 20 1) (9 ∷ 9 ∷ 9 ∷ []) ∷
-    bodies (whole announcedElement) (9 ∷ 9 ∷ []) (refuses 20 1) (9 ∷ 9 ∷ []) ∷
-    bodies (whole (announcedOpen (0x02 ∷ 0x04 ∷ []))) (9 ∷ 9 ∷ 9 ∷ []) (refuses 20 1) (9 ∷ 9 ∷ 9 ∷ []) ∷
+    bodies (whole (plainOpen (anAttribute (0x03 ∷ [])))) (both (9 ∷ []) (9 ∷ 9 ∷ 9 ∷ [])) (refuses 20 1) (both (9 ∷ []) (9 ∷ 9 ∷ 9 ∷ [])) ∷
+    bodies (whole announcedElement) (both (9 ∷ []) (9 ∷ 9 ∷ [])) (refuses 20 1) (both (9 ∷ []) (9 ∷ 9 ∷ [])) ∷
+    bodies (whole (announcedOpen (0x02 ∷ 0x04 ∷ []))) (both (9 ∷ []) (9 ∷ 9 ∷ 9 ∷ [])) (refuses 20 1) (both (9 ∷ []) (9 ∷ 9 ∷ 9 ∷ [])) ∷
     -- announced and present, with a value: it is a body
-    bodies (whole (announcedOpen (anAttribute (0x05 ∷ 0x01 ∷ 0 ∷ 0 ∷ 0x03 ∷ [])))) (9 ∷ 9 ∷ 9 ∷ 9 ∷ []) (gives 4) (0 ∷ 1 ∷ 2 ∷ 1 ∷ []) ∷
+    bodies (whole (announcedOpen (anAttribute (0x05 ∷ 0x01 ∷ 0 ∷ 0 ∷ 0x03 ∷ [])))) (both (9 ∷ 9 ∷ 9 ∷ 9 ∷ 9 ∷ 9 ∷ 9 ∷ 9 ∷ []) (9 ∷ 9 ∷ 9 ∷ 9 ∷ [])) (gives 4) (both (0x2000000034000100 ∷ 0x0000020000000000 ∷ 0x7000680014000000 ∷ 0x0000020000000000 ∷ 0x6000900010000000 ∷ 0 ∷ 0x4000B00004000000 ∷ 0 ∷ []) (0 ∷ 1 ∷ 2 ∷ 1 ∷ [])) ∷
     -- a close element right after 41 is in no body, whatever is announced; and after 41 alone, and after its attribute, more is to come
-    bodies (whole (announcedOpen (0x04 ∷ []))) (9 ∷ []) (refuses 13 1) (9 ∷ []) ∷
-    bodies (whole (announcedOpen [])) (9 ∷ []) (refuses 15 1) (9 ∷ []) ∷
-    bodies (whole (announcedOpen (anAttribute []))) (9 ∷ []) (refuses 15 2) (9 ∷ []) ∷
+    bodies (whole (announcedOpen (0x04 ∷ []))) (both (9 ∷ []) (9 ∷ [])) (refuses 13 1) (both (9 ∷ []) (9 ∷ [])) ∷
+    bodies (whole (announcedOpen [])) (both (9 ∷ []) (9 ∷ [])) (refuses 15 1) (both (9 ∷ []) (9 ∷ [])) ∷
+    bodies (whole (announcedOpen (anAttribute []))) (both (9 ∷ []) (9 ∷ [])) (refuses 15 2) (both (9 ∷ []) (9 ∷ [])) ∷
     []

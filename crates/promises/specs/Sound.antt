@@ -18,7 +18,7 @@ use Rattle.tokens.specs.declared.Held.{Held}
 use Rattle.tokens.specs.declared.Held.the-variants as H
 use Rattle.tokens.specs.declared.Token.{Token}
 use Rattle.sheet.specs.Sheet.{sheetAnswer, sheetWords}
-use Rattle.body.specs.Verdict.{Answered}
+use Rattle.body.specs.Verdict.{Both, Answered}
 
 -- "each high surrogate followed by a low one, no low one alone", place by place: a unit is a low surrogate exactly where the one before it is
 -- a high one. Past the end stands 0, which is neither, so that none may be high at the end
@@ -76,5 +76,5 @@ walkAs sound soundness (bad k p) = bad k p
 pub record SameSheet (v w : Walked) : Type 0 where
   pub answer : (lent : List ℕ) → sheetAnswer v lent ≡ sheetAnswer w lent
   pub words : (lent : List ℕ) → sheetWords v lent ≡ sheetWords w lent
-  pub owners : (lent left : List ℕ) (o : Result ℕ) → Answered lent left v o → Answered lent left w o
-  pub owners-too : (lent left : List ℕ) (o : Result ℕ) → Answered lent left w o → Answered lent left v o
+  pub body : (lent left : Both) (o : Result ℕ) → Answered lent left v o → Answered lent left w o
+  pub body-too : (lent left : Both) (o : Result ℕ) → Answered lent left w o → Answered lent left v o

@@ -1,5 +1,5 @@
 -- Lent words that are all the same, and a flag as a number. Assumes nothing.
-use mathlib.Core.Path.{_≡_, refl, ap}
+use mathlib.Core.Path.{_≡_, refl, sym, ap, _∙_}
 use mathlib.Core.Bool.{Bool, true, false}
 use mathlib.Core.List.{List, [], _∷_}
 use Prim.Native.Nat.{ℕ, zero, suc, _≤_, _<_}
@@ -8,6 +8,7 @@ use native.Mathlib.Decide.{decLt}
 use borrow.Author.Tests.{le-leb, lt-leb}
 use lib.Dec.{leb}
 use lib.ListN.{length, take, drop, replicate}
+use lib.Seq.{take-all}
 use Rattle.cursor.specs.Answer.{pick}
 use mir.Val.{boolByte}
 use Rattle.tokens.specs.declared.Flags.{Flags}
@@ -29,6 +30,18 @@ take-replicate x k n =
     elim (decLt n k) [
       | yes l ↦ rw (lt-leb k n l) (take-more x k n l)
       | no l ↦ rw (le-leb k n (omega arith)) (take-less x k n (omega arith))
+    ]
+
+-- the first of words that are there, or all of them
+pub take-upto : (l : List ℕ) (n k room : ℕ) → n ≡ pick (leb k (length l)) k (length l) → k ≡ room → take n l ≡ take room l
+take-upto l n k room e h =
+    elim (decLt (length l) k) [
+      | yes g ↦
+          let m : n ≡ length l = e ∙ (rw (lt-leb k (length l) g)) in
+          take-all n l (omega arith) ∙ sym (take-all room l (omega arith))
+      | no g ↦
+          let m : n ≡ k = e ∙ (rw (le-leb k (length l) (omega arith))) in
+          ap (λ (i : ℕ). take i l) (m ∙ h)
     ]
 
 -- past the last

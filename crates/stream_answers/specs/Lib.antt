@@ -3,4 +3,5 @@ pub mod Content
 pub mod Token
 pub mod Walk
 pub mod Modes
+pub mod Body
 pub mod Kept

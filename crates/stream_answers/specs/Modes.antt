@@ -1,4 +1,4 @@
--- The single instance, the owner table and the C calls. docs/ANSWERS.md, modes S, O and C.
+-- The single instance, the owner table and the sheet by itself. docs/ANSWERS.md, modes S, O and C.
 use mathlib.Core.Path.{_≡_}
 use mathlib.Core.Bool.{Bool, true, false}
 use mathlib.Core.List.{List, [], _∷_, _++_}
@@ -10,10 +10,9 @@ use Rattle.cursor.specs.Reads.{numberOf}
 use Rattle.tokens.specs.Single.{singleOf, endsOf}
 use Rattle.tokens.specs.Walk.{Walked, walkOf}
 use Rattle.sheet.specs.Sheet.{sheetAnswer, sheetWords}
-use Rattle.body.specs.Verdict.{Answered}
-use Rattle.doortumble.specs.Calls.{packedOf, OwnersPacked}
+use Rattle.body.specs.Verdict.{Both, both, Answered}
 use Rattle.stream_answers.specs.declared.Asked.{Asked}
-use Rattle.print.specs.Text.{ascii, each, hexWord, spacedWord, spacedHalf, lineOf, refusedOf}
+use Rattle.print.specs.Text.{ascii, each, hexWord, spacedWord, lineOf, refusedOf}
 
 -- '`single` offset or `single none`'
 abbrev pub singleText : Maybe ℕ → List ℕ
@@ -39,12 +38,13 @@ abbrev pub ownersText : Result ℕ → List ℕ → List ℕ
 ownersText (gives n) left = lineOf (ascii "owners") (take n left)
 ownersText (refuses k p) left = refusedOf (record { number = k; place = p })
 
--- the text of an answer that the owner table's definition allows, with what is left in a table that has a word for each token there can be
+-- the text of an answer that the body's definition allows, with what is left in a table that has a word for each token there can be, the
+-- sheet having two
 pub record OwnersSaid (w : Walked) (text : List ℕ) : Type 0 where
   pub answer : Result ℕ
-  pub left : List ℕ
-  pub answered : Answered (replicate 65536 0) left w answer
-  pub is : text ≡ ownersText answer left
+  pub left : Both
+  pub answered : Answered (both (replicate 131072 0) (replicate 65536 0)) left w answer
+  pub is : text ≡ ownersText answer (left .table)
 
 -- C: 'Data is four bytes of room (u32; more than 65,536 counts as that: how many words are lent, each first set to all ones) and then the
 -- stream'
@@ -57,24 +57,19 @@ streamOf bytes = drop 4 bytes
 abbrev pub lentWords : List ℕ → ℕ → List ℕ
 lentWords bytes ones = replicate (pick (leb (roomIn bytes) 65536) (roomIn bytes) 65536) ones
 
--- '`answer` and the packed word in 16 hex digits'
-unfoldable pub answerText : ℕ → List ℕ
-answerText word = ascii "answer " ++ hexWord word ++ ascii "\n"
+-- '`count` n or `refused` number place'
+abbrev pub countText : Result ℕ → List ℕ
+countText (gives n) = lineOf (ascii "count") (n ∷ [])
+countText (refuses k p) = refusedOf (record { number = k; place = p })
 
--- '`words` and the lent words in hex (16 or 8 digits each)'
+-- '`words` and the lent words', '16 digits each'
 abbrev pub wordsText : List ℕ → List ℕ
 wordsText words = ascii "words" ++ each spacedWord words ++ ascii "\n"
 
-abbrev pub tableText : List ℕ → List ℕ
-tableText words = ascii "words" ++ each spacedHalf words ++ ascii "\n"
-
--- the sheet call, on a walk and lent words
+-- the sheet, on a walk and lent words
 abbrev pub sheetText : Walked → List ℕ → List ℕ
-sheetText w lent = answerText (packedOf (sheetAnswer w lent)) ++ wordsText (sheetWords w lent)
+sheetText w lent = countText (sheetAnswer w lent) ++ wordsText (sheetWords w lent)
 
--- the owner call: the text of an answer word that its definition allows, with what is left in the lent words
-pub record OwnersCalled (w : Walked) (lent text : List ℕ) : Type 0 where
-  pub word : ℕ
-  pub left : List ℕ
-  pub packed : OwnersPacked w lent left word
-  pub is : text ≡ answerText word ++ tableText left
+-- of a C call: '`answer` and the packed word', 16 hex digits
+unfoldable pub answerText : ℕ → List ℕ
+answerText word = ascii "answer " ++ hexWord word ++ ascii "\n"

@@ -1,10 +1,12 @@
-// What the C calls answer on lent words, and what they leave there.
+// What the library's sheet answers on lent words, and what it leaves there.
 use crate::Asked;
 use crate::ROOM;
+use cursor::Counted;
 ghost use mathlib.Core.Path.{_≡_};
-ghost use lib.ListN.{take};
-ghost use Rattle.print.specs.Text.{Puts, PutsSome};
-ghost use Rattle.stream_answers.specs.Modes.{askedWalk, answerText, wordsText, tableText, sheetText, OwnersCalled, streamOf, roomIn};
+ghost use lib.ListN.{take, drop};
+ghost use Rattle.cursor.specs.Answers.{countAnswer};
+ghost use Rattle.print.specs.Text.{Puts};
+ghost use Rattle.stream_answers.specs.Modes.{askedWalk, countText, answerText, wordsText, sheetText, streamOf, roomIn};
 
 // The words that are lent are the first of those that are there, or all of them.
 pub(crate) fn sheet_of(
@@ -18,67 +20,37 @@ pub(crate) fn sheet_of(
 {
     let room = cursor::u32_at(bytes, 0) as usize;
     if words.len() < room {
-        return sheet_in(out, at, stream_of(bytes), asked, words);
+        return sheet_in(out, at, behind(bytes, ROOM), asked, words);
     }
-    sheet_in(out, at, stream_of(bytes), asked, &mut words[..room])
+    sheet_in(out, at, behind(bytes, ROOM), asked, &mut words[..room])
 }
 
 fn sheet_in(out: &mut [u8], at: usize, s: &[u8], asked: Asked, words: &mut [u64]) -> usize
     ensures { λ r. ⌜ Puts (sheetText (askedWalk (now (s .entry)) asked) (now (words .entry))) (now (out .entry)) at (now (out .exit)) r ⌝ }
 {
-    let f = asked.flags;
-    let r = doortumble::doortumble_sheet(
-        s,
-        asked.start,
-        asked.length,
-        f.dependencies as u32,
-        f.inline as u32,
-        words,
-    );
-    let end = said(out, at, r);
+    let r = sheet::fill(s, asked.start, asked.length, asked.flags, words);
+    let end = counted(out, at, r);
     sheet_line(out, end, words)
 }
 
-pub(crate) fn owners_of(
-    out: &mut [u8],
-    at: usize,
-    bytes: &[u8],
-    asked: Asked,
-    words: &mut [u32],
-) -> usize
-    ensures { λ r. ⌜ PutsSome (OwnersCalled (askedWalk (streamOf (now (bytes .entry))) asked) (take (roomIn (now (bytes .entry))) (now (words .entry)))) (now (out .entry)) at (now (out .exit)) r ⌝ }
+// How many tokens there are, or the refusal.
+fn counted(out: &mut [u8], at: usize, c: Counted) -> usize
+    ensures { λ r. ⌜ Puts (countText (countAnswer c)) (now (out .entry)) at (now (out .exit)) r ⌝ }
 {
-    let room = cursor::u32_at(bytes, 0) as usize;
-    if words.len() < room {
-        return owners_in(out, at, stream_of(bytes), asked, words);
+    match c {
+        Counted::Count(n) => print::line(out, at, b"count", &[n as u64]),
+        Counted::Refused(r) => print::refused(out, at, r),
     }
-    owners_in(out, at, stream_of(bytes), asked, &mut words[..room])
 }
 
-fn owners_in(out: &mut [u8], at: usize, s: &[u8], asked: Asked, words: &mut [u32]) -> usize
-    ensures { λ r. ⌜ PutsSome (OwnersCalled (askedWalk (now (s .entry)) asked) (now (words .entry))) (now (out .entry)) at (now (out .exit)) r ⌝ }
+// What stands behind the front of a case's data: the stream.
+pub(crate) fn behind(bytes: &[u8], front: usize) -> &[u8]
+    ensures { λ r. ⌜ now r ≡ drop front (now (bytes .entry)) ⌝ }
 {
-    let f = asked.flags;
-    let r = doortumble::doortumble_owners(
-        s,
-        asked.start,
-        asked.length,
-        f.dependencies as u32,
-        f.inline as u32,
-        words,
-    );
-    let end = said(out, at, r);
-    table_line(out, end, words)
-}
-
-// The stream stands behind the room.
-fn stream_of(bytes: &[u8]) -> &[u8]
-    ensures { λ r. ⌜ now r ≡ streamOf (now (bytes .entry)) ⌝ }
-{
-    if bytes.len() < ROOM {
+    if bytes.len() < front {
         return &bytes[..0];
     }
-    &bytes[ROOM..]
+    &bytes[front..]
 }
 
 // The answer's word.
@@ -95,13 +67,5 @@ pub(crate) fn sheet_line(out: &mut [u8], at: usize, words: &[u64]) -> usize
 {
     let a = print::text(out, at, b"words");
     let b = print::hex_words(out, a, words);
-    print::byte(out, b, b'\n')
-}
-
-fn table_line(out: &mut [u8], at: usize, words: &[u32]) -> usize
-    ensures { λ r. ⌜ Puts (tableText (now (words .entry))) (now (out .entry)) at (now (out .exit)) r ⌝ }
-{
-    let a = print::text(out, at, b"words");
-    let b = print::hex_halves(out, a, words);
     print::byte(out, b, b'\n')
 }

@@ -1,8 +1,10 @@
-// The answers of the batch's modes that read a token stream: the walk (T), the single instance (S), the owner table (O), the C calls (C) and
-// the moves of a kept sheet (K). Each function puts its lines into a lent buffer, behind what is there.
+// The answers of the batch's modes that read a token stream: the walk (T), the single instance (S), the owner table (O), the sheet by itself
+// (C), sheet and owner table by one C call (B) and the moves of a kept sheet (K). Each function puts its lines into a lent buffer, behind what
+// is there.
 mod call;
 mod content;
 mod field;
+mod joined;
 mod keeping;
 mod token;
 
@@ -17,7 +19,8 @@ ghost use Rattle.cursor.specs.Reads.{numberOf};
 ghost use Rattle.tokens.specs.Single.{singleAnswer, endsAnswer};
 ghost use Rattle.print.specs.Text.{ascii, Puts, PutsSome, lineOf};
 ghost use Rattle.stream_answers.specs.Walk.{walkText};
-ghost use Rattle.stream_answers.specs.Modes.{askedWalk, singleText, endsText, singleLines, OwnersSaid, sheetText, OwnersCalled, lentWords, streamOf};
+ghost use Rattle.stream_answers.specs.Modes.{askedWalk, singleText, endsText, singleLines, OwnersSaid, sheetText, lentWords, streamOf};
+ghost use Rattle.stream_answers.specs.Body.{lentBoth, bodyStream, BodyCalled};
 ghost use Rattle.stream_answers.specs.Kept.{givenWords, keptStream, keptText};
 
 // What of a stream is asked for, and how it is read.
@@ -27,14 +30,19 @@ pub struct Asked {
     pub flags: Flags,
 }
 
-// A C call's data begins with how many words are lent, in so many bytes.
+// Mode C's data begins with how many words are lent, in so many bytes.
 pub const ROOM: usize = 4;
+
+// Mode B's begins with how many are lent for the sheet and for the table.
+pub const ROOMS: usize = 8;
 
 // Mode K's begins with how many words are lent and how many are given.
 pub const KEPT: usize = 8;
 
-// The most words that are lent.
+// The most words that are lent, and the words of a sheet that is always long enough.
 const MOST: usize = 65536;
+
+const SHEET: usize = 131072;
 
 // Mode T: the tokens, one a line, then how many they are, or the refusal that ends them.
 pub fn walk(out: &mut [u8], at: usize, s: &[u8], asked: Asked) -> usize
@@ -77,8 +85,16 @@ fn ends_line(out: &mut [u8], at: usize, e: Ends) -> usize
 pub fn owners(out: &mut [u8], at: usize, s: &[u8], asked: Asked) -> usize
     ensures { λ r. ⌜ PutsSome (OwnersSaid (askedWalk (now (s .entry)) asked)) (now (out .entry)) at (now (out .exit)) r ⌝ }
 {
+    let mut sheet = [0u64; SHEET];
     let mut table = [0u32; MOST];
-    match body::owners(s, asked.start, asked.length, asked.flags, &mut table) {
+    match body::fill(
+        s,
+        asked.start,
+        asked.length,
+        asked.flags,
+        &mut sheet,
+        &mut table,
+    ) {
         Counted::Count(n) => owner_line(out, at, &table[..n]),
         Counted::Refused(r) => print::refused(out, at, r),
     }
@@ -92,19 +108,21 @@ fn owner_line(out: &mut [u8], at: usize, words: &[u32]) -> usize
     print::byte(out, b, b'\n')
 }
 
-// Mode C: what the sheet call and the owner call answer on lent words, and what they leave there. Each word is first set to all ones.
-pub fn sheet_call(out: &mut [u8], at: usize, bytes: &[u8], asked: Asked) -> usize
+// Mode C: what the library's sheet answers on lent words, and what it leaves there. Each word is first set to all ones.
+pub fn sheet_alone(out: &mut [u8], at: usize, bytes: &[u8], asked: Asked) -> usize
     ensures { λ r. ⌜ Puts (sheetText (askedWalk (streamOf (now (bytes .entry))) asked) (lentWords (now (bytes .entry)) (2 ^ 64 - 1))) (now (out .entry)) at (now (out .exit)) r ⌝ }
 {
     let mut words = [0xFFFF_FFFF_FFFF_FFFFu64; MOST];
     call::sheet_of(out, at, bytes, asked, &mut words)
 }
 
-pub fn owners_call(out: &mut [u8], at: usize, bytes: &[u8], asked: Asked) -> usize
-    ensures { λ r. ⌜ PutsSome (OwnersCalled (askedWalk (streamOf (now (bytes .entry))) asked) (lentWords (now (bytes .entry)) (2 ^ 32 - 1))) (now (out .entry)) at (now (out .exit)) r ⌝ }
+// Mode B: what the C call for sheet and owner table answers on lent words of both kinds, and what it leaves there.
+pub fn body_call(out: &mut [u8], at: usize, bytes: &[u8], asked: Asked) -> usize
+    ensures { λ r. ⌜ PutsSome (BodyCalled (askedWalk (bodyStream (now (bytes .entry))) asked) (lentBoth (now (bytes .entry)))) (now (out .entry)) at (now (out .exit)) r ⌝ }
 {
-    let mut words = [0xFFFF_FFFFu32; MOST];
-    call::owners_of(out, at, bytes, asked, &mut words)
+    let mut sheet = [0xFFFF_FFFF_FFFF_FFFFu64; MOST];
+    let mut table = [0xFFFF_FFFFu32; MOST];
+    joined::body_of(out, at, bytes, asked, &mut sheet, &mut table)
 }
 
 // Mode K: what the calls on a kept sheet answer on lent words, and what they leave there.

@@ -73,6 +73,7 @@ calls =
       unsound-line = refl;
       sound-line = refl;
       owners-line = refl;
-      sheet-call = refl;
-      owners-call = refl;
+      sheet-lines = refl;
+      body-lines = refl;
+      told = (refl, refl);
     }

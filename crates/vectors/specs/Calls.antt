@@ -29,7 +29,10 @@ use Rattle.tokens.specs.declared.Flags.{Flags}
 use Rattle.doortumble.specs.Calls.{packedOf}
 use Rattle.checksum_call.specs.Said.{saidOf}
 use Rattle.print.specs.Text.{ascii, page, put}
-use Rattle.stream_answers.specs.Modes.{ownersText, answerText, tableText, sheetText}
+use Rattle.body.specs.Verdict.{both}
+use Rattle.sheet_call.specs.Told.{toldOf}
+use Rattle.stream_answers.specs.Modes.{ownersText, answerText, sheetText}
+use Rattle.stream_answers.specs.Body.{bothText}
 use Rattle.stream_answers.specs.Walk.{walkText}
 use Rattle.promises.specs.Samples.{emptyElement, announcedElement, anInstance, whole, walkOfStream}
 
@@ -156,6 +159,9 @@ pub record Calls : Type 0 where
   pub sound-line : walkText (0x06 ∷ 0 ∷ 0 ∷ 0 ∷ 0 ∷ 0 ∷ 0 ∷ []) 0 7 (record { dependencies = false; inline = true }) ≡ ascii "0 7 7 1 1\nok 1\n"
   -- `stream_answers::owners`: as many words as tokens
   pub owners-line : ownersText (gives 2) (0 ∷ 1 ∷ 9 ∷ []) ≡ ascii "owners 0 1\n"
-  -- `stream_answers::sheet_call`, `owners_call`: the answer's word, and all words that were lent
-  pub sheet-call : sheetText (walkOfStream (whole emptyElement)) (9 ∷ []) ≡ ascii "answer 9000000000000004\nwords 0000000000000009\n"
-  pub owners-call : answerText (packedOf (gives 2)) ++ tableText (0 ∷ 1 ∷ 9 ∷ []) ≡ ascii "answer 0000000000000002\nwords 00000000 00000001 00000009\n"
+  -- `stream_answers::sheet_alone`: the refusal, and all words that were lent; `body_call`: the answer's word, and all words of both
+  pub sheet-lines : sheetText (walkOfStream (whole emptyElement)) (9 ∷ []) ≡ ascii "refused 16 4\nwords 0000000000000009\n"
+  pub body-lines : answerText (packedOf (gives 1)) ++ bothText (both (9 ∷ 8 ∷ []) (0 ∷ 9 ∷ []))
+      ≡ ascii "answer 0000000000000001\nsheet 0000000000000009 0000000000000008\ntable 00000000 00000009\n"
+  -- `doortumble_bench_sheet`: a count, and all ones for a refusal
+  pub told : (toldOf (gives 2) ≡ 2) × (toldOf (refuses 16 4) ≡ 0xFFFFFFFFFFFFFFFF)

@@ -22,7 +22,7 @@ returns c =
     let b = a .bytes .now in
     let h : length (a .words .now) ≤ roomIn b = omega (arith, r .if1 .taken, u .u32-at .ensures) in
     put-as
-    (ap (λ (s : List ℕ). sheetText (askedWalk s (a .asked)) (a .words .now)) (q .stream-of .ensures)
+    (ap (λ (s : List ℕ). sheetText (askedWalk s (a .asked)) (a .words .now)) (q .behind .ensures)
     ∙ ap (λ (w : List ℕ). sheetText (askedWalk (streamOf b) (a .asked)) w) (sym (take-all (roomIn b) (a .words .now) h)))
     (p .sheet-in .ensures)
 
@@ -40,7 +40,7 @@ returns-2 c =
     let a = u .args in
     let b = a .bytes .now in
     put-as
-    (ap (λ (s : List ℕ). sheetText (askedWalk s (a .asked)) (take (r .u32-at .result) (a .words .now))) (q .stream-of2 .ensures)
+    (ap (λ (s : List ℕ). sheetText (askedWalk s (a .asked)) (take (r .u32-at .result) (a .words .now))) (q .behind2 .ensures)
     ∙ ap (λ (n : ℕ). sheetText (askedWalk (streamOf b) (a .asked)) (take n (a .words .now))) (r .u32-at .ensures))
     (p .sheet-in2 .ensures)
 
