@@ -293,10 +293,40 @@ fn real_cases() {
     assert!(held.contains("\nlive 512 ") && !held.contains("\napart\n"));
 }
 
+/// The refusals among the answers of mode M; at least one merge is not refused.
+fn reached_by_merges(answers: &str) -> Vec<u64> {
+    let words = answers
+        .lines()
+        .filter_map(|line| line.strip_prefix("answer "))
+        .map(|word| u64::from_str_radix(word, 16).expect("sixteen digits"));
+    let (refused, merged): (Vec<u64>, Vec<u64>) = words.partition(|word| word >> 63 == 1);
+    assert!(!merged.is_empty(), "each merge is refused");
+    // A list too long is told with whose it is.
+    let mut numbers: Vec<u64> = refused
+        .into_iter()
+        .map(|word| match word >> 56 & 0x7f {
+            27 => 270 + (word & 0xff),
+            number => number,
+        })
+        .collect();
+    numbers.sort_unstable();
+    numbers.dedup();
+    numbers
+}
+
+#[test]
+fn made_merges() {
+    assert_eq!(reached_by_merges(&answers("merge", 1, 1000)), [28, 270, 271]);
+    let full = |case: &cases::Case| case.data[..4] == 12288_u32.to_le_bytes();
+    assert!(cases::make("merge", 1, 1000).expect("a kind").any(|case| full(&case)));
+}
+
 #[test]
 fn stored_cases() {
     let stored = cases::make("stored", 0, usize::MAX).expect("a kind");
-    let (kept, others): (Vec<_>, Vec<_>) = stored.partition(|case| case.mode == b'K');
+    let (merged, stored): (Vec<_>, Vec<_>) = stored.partition(|case| case.mode == b'M');
+    assert_eq!(reached_by_merges(&answers_to(merged.into_iter())), [28]);
+    let (kept, others): (Vec<_>, Vec<_>) = stored.into_iter().partition(|case| case.mode == b'K');
     let answers = answers_to(others.into_iter());
     assert!(answers.ends_with(".\nbad case\n"));
     reaches_all(&answers);

@@ -154,7 +154,7 @@ fn case(flags: u8, room: u32, primary: &[u64], other: &[u64], cut: usize) -> Cas
     }
 }
 
-/// The stored ones.
+/// The stored ones. Lists at the limit and past it are among the made cases: each takes 96 KiB.
 pub fn stored() -> Vec<Case> {
     let [a, b, c, d, e, f] = [0xa, 0xb, 0xc, 0xd, 0xe, 0xf];
     // The sample: rule one gives b, c, e, and rule two b, d, e.
@@ -196,11 +196,6 @@ pub fn stored() -> Vec<Case> {
             let other = [[7, third, 3], [7, third, 4]].concat();
             cases.push(case(rule, 3, &primary, &other, 0));
         }
-    }
-    // At the limit and past it, in a few bytes of answer: all of one tag.
-    let many = |count: usize| -> Vec<u64> { (0..count as u64).flat_map(|i| [4, i / 2, i]).collect() };
-    for (one, two) in [(4096, 0), (4097, 0), (0, 4096), (0, 4097), (4097, 4097)] {
-        cases.push(case(1, 3, &many(one), &many(two), 0));
     }
     cases
 }

@@ -5,6 +5,7 @@ use super::chunk_cases::case;
 use super::chunks::SIZE;
 use super::file_cases;
 use super::kept_cases;
+use super::merge_cases;
 use super::stored_bodies;
 use super::stored_tokens;
 use crate::Hasher;
@@ -19,6 +20,7 @@ pub fn cases() -> Vec<Case> {
     cases.extend(stored_bodies::cases());
     cases.extend(file_cases::stored());
     cases.extend(kept_cases::stored());
+    cases.extend(merge_cases::stored());
     // No such mode: the run ends.
     cases.push(case(b'Z', 0, 0, &[], &[]));
     cases.push(case(b'H', 0, 0, &[], &[]));

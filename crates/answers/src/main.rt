@@ -1,5 +1,5 @@
 // Answers a batch of cases (docs/ANSWERS.md): cases come on standard input, their answers go to standard output. What is answered stands in
-// `chunk_answers`, `file_text` and `stream_answers`; this program reads the cases and finds the mode. No rule of the format stands here.
+// `chunk_answers`, `file_text`, `stream_answers` and `merge_answers`; this program reads the cases and finds the mode. No rule of the format stands here.
 use cursor::Part;
 use libc::STDIN_FILENO;
 use libc::STDOUT_FILENO;
@@ -144,16 +144,18 @@ fn least_data(mode: u8) -> usize {
         b'C' => stream_answers::ROOM,
         b'B' => stream_answers::ROOMS,
         b'K' => stream_answers::KEPT,
+        b'M' => merge_answers::FRONT,
         _ => MOST_DATA + 1,
     }
 }
 
-// What stands before the stream, where the data itself says how much that is.
+// What stands before the stream, or all that there is, where the data itself says how much that is.
 fn front(mode: u8, bytes: &[u8]) -> usize {
-    if mode == b'K' {
-        return stream_answers::kept_front(bytes);
+    match mode {
+        b'K' => stream_answers::kept_front(bytes),
+        b'M' => merge_answers::front(bytes),
+        _ => 0,
     }
-    0
 }
 
 // The answer lines of a case.
@@ -168,6 +170,7 @@ fn answer(out: &mut [u8], at: usize, case: Case, bytes: &[u8]) -> usize {
         b'P' => chunk_answers::step(out, at, bytes),
         b'F' => file_text::answers(out, at, bytes, first),
         b'S' => stream_answers::single(out, at, bytes, case.start as usize),
+        b'M' => merge_answers::merged(out, at, bytes, first),
         _ => on_stream(out, at, case, bytes),
     }
 }

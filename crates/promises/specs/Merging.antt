@@ -2,8 +2,12 @@
 use mathlib.Core.Path.{_≡_}
 use mathlib.Core.Logic.{_⊎_}
 use mathlib.Core.List.{List, [], _∷_}
-use Prim.Native.Nat.{ℕ, _≤_, _<_}
-use Rattle.merge.specs.Writes.{Write, IsAt, Lacks, Newest}
+use Prim.Native.Nat.{ℕ, _/_, _≤_, _<_}
+use lib.ListN.{length}
+use Rattle.cursor.specs.Answer.{Result, gives, refuses}
+use Rattle.cursor.specs.Lent.{laid}
+use Rattle.merge.specs.Writes.{Write, writeWords, IsAt, Lacks, Newest}
+use Rattle.merge.specs.Rows.{write}
 
 -- a row of a tag in a result
 abbrev pub RowIn : List Write → ℕ → Write → Type 0
@@ -26,10 +30,26 @@ Agree primary other tag =
     Lacks primary tag
     ⊎ (Lacks other tag ⊎ ((x : Write) × ((y : Write) × (Newest primary tag x × (Newest other tag y × (y .time ≤ x .time))))))
 
--- a sample: the primary's writes (5, 10, A), (3, 7, B), (5, 10, C), and the other's (5, 12, D), (9, 1, E), (3, 7, F)
-abbrev pub write : ℕ → ℕ → ℕ → Write
-write tag time value = record { tag = tag; time = time; value = value }
+-- one holds exactly where the other does
+abbrev pub Exact : Type 0 → Type 0 → Type 0
+Exact A B = (A → B) × (B → A)
 
+-- when a merge is refused, and with what: "27, a list too long, at 0 for the primary's, else at 1, 28, result room short, with the rows
+-- needed as place, in that order; the result stays as it was", over the writes of both lists and the rows of their selection
+pub record Refusals (primary other rows : List Write) (lent left : List ℕ) (answer : Result ℕ) : Type 0 where
+  pub primary-long : Exact (answer ≡ refuses 27 0) (4096 < length primary)
+  pub other-long : Exact (answer ≡ refuses 27 1) ((length primary ≤ 4096) × (4096 < length other))
+  pub no-room :
+      Exact (answer ≡ refuses 28 (length rows)) ((length primary ≤ 4096) × ((length other ≤ 4096) × (length lent / 3 < length rows)))
+  pub merged :
+      Exact (answer ≡ gives (length rows)) ((length primary ≤ 4096) × ((length other ≤ 4096) × (length rows ≤ length lent / 3)))
+  pub no-other : (k q : ℕ) → answer ≡ refuses k q
+      → (answer ≡ refuses 27 0) ⊎ ((answer ≡ refuses 27 1) ⊎ (answer ≡ refuses 28 (length rows)))
+  pub counts : (n : ℕ) → answer ≡ gives n → n ≡ length rows
+  pub leaves : (k q : ℕ) → answer ≡ refuses k q → left ≡ lent
+  pub writes : (n : ℕ) → answer ≡ gives n → left ≡ laid (writeWords rows) lent
+
+-- a sample: the primary's writes (5, 10, A), (3, 7, B), (5, 10, C), and the other's (5, 12, D), (9, 1, E), (3, 7, F)
 abbrev pub samplePrimary : List Write
 samplePrimary = write 5 10 0xA ∷ write 3 7 0xB ∷ write 5 10 0xC ∷ []
 
