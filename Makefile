@@ -1,5 +1,5 @@
 # make               the command and the library, in target/
-# make install       the command, its man page, the C header, the library and its pkg-config file, below PREFIX (in DESTDIR, if given)
+# make install       the command, its man page, the C header, the reader's two archives and their pkg-config file, below PREFIX (in DESTDIR, if given)
 # make uninstall     takes them away again
 # make check         the gate
 # make clean         removes the command; what is proved stays
@@ -12,18 +12,25 @@ endif
 
 prefix = $(abspath $(PREFIX))
 root = $(DESTDIR)$(prefix)
-installed = bin/doortumble share/man/man1/doortumble.1 include/doortumble.h lib/libdoortumble.a lib/pkgconfig/doortumble.pc
+installed = bin/doortumble share/man/man1/doortumble.1 include/doortumble.h lib/libdoortumble.a lib/libnest_call.a lib/pkgconfig/doortumble.pc
+
+# The archive of doortumble_bodies, and what it is made from.
+bodies = target/staticlib/libnest_call.a
+walked = cursor name value tokens sheet body nest doortumble nest_call
 
 all:
 	@CC='$(CC)' CFLAGS='$(CFLAGS)' command/build
 
-install: all
+install: all $(bodies)
 	install -d $(addprefix '$(root)'/,bin share/man/man1 include lib/pkgconfig)
 	install -m 755 target/command/doortumble '$(root)/bin/'
 	install -m 644 command/doortumble.1 '$(root)/share/man/man1/'
 	install -m 644 include/doortumble.h '$(root)/include/'
-	install -m 644 target/staticlib/libdoortumble.a '$(root)/lib/'
+	install -m 644 target/staticlib/libdoortumble.a $(bodies) '$(root)/lib/'
 	sed 's|@PREFIX@|$(prefix)|; s|@VERSION@|'"$$(cat command/VERSION)"'|' command/doortumble.pc.in >'$(root)/lib/pkgconfig/doortumble.pc'
+
+$(bodies): crates.txt $(wildcard $(foreach crate,$(walked),crates/$(crate)/src/*.rt))
+	rt staticlib nest_call
 
 uninstall:
 	rm -f $(addprefix '$(root)'/,$(installed))

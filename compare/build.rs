@@ -149,13 +149,17 @@ fn modules(printed: &Path, ours: &Path) -> String {
          #[warn(warnings)]\n#[path = {child:?}]\npub(crate) mod raw_walk;\n}}\n"
     );
 
+    text += "pub mod model {\n";
+    text += &by_path("model/ir.rs", "pub(crate) mod ir;");
+    text += "}\n";
     text += "pub mod binxml {\n";
     text += &by_path("binxml/name.rs", "pub mod name;");
     text += &by_path("binxml/tokens.rs", "pub(crate) mod tokens;");
     text += &by_path("binxml/value_variant.rs", "pub mod value_variant;");
     text += "pub use tokens::BinXmlTemplateValues;\n";
     text += &standin("compiled.rs", "pub(crate) mod compiled;");
-    text += &standin("content.rs", "pub(crate) mod ir;");
+    text += &by_path("binxml/ir.rs", "pub(crate) mod ir;");
+    text += &by_path("binxml/array_expand.rs", "pub(crate) mod array_expand;");
     text += &standin("value_render.rs", "pub(crate) mod value_render;");
     text += "}\n";
     text

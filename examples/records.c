@@ -247,8 +247,8 @@ static void print_token(const struct job *job, uint64_t n)
 {
     doortumble_token token = doortumble_token_at(job->sheet, n);
 
-    // One step below the record's own line, and one more for each level.
-    printf("%*s%s %" PRIu64 " place %" PRIu32 " length %" PRIu32 " owner ", 2 + 2 * level_of(job->owners, n), "",
+    // One step below the record's own line, and one more for each owner and for each value that it stands in.
+    printf("%*s%s %" PRIu64 " place %" PRIu32 " length %" PRIu32 " owner ", 2 + 2 * (level_of(job->owners, n) + (int)token.level), "",
            kind_name(token.kind), n, token.place, token.length);
     if (doortumble_has_owner(job->owners[n]))
         printf("%" PRIu32, doortumble_owner(job->owners[n]));
@@ -277,13 +277,14 @@ static enum status print_unread(uint64_t answer)
 }
 
 // The tokens of a live record. The stream is the whole chunk, since names are offsets in the chunk. The open tokens of a record
-// carry no dependency (only those of template definitions do), and its names are not inline.
+// carry no dependency (only those of template definitions do), and its names are not inline. A record's event mostly stands in a value
+// of its instance, and its tokens come right after that.
 static enum status print_tokens(struct job *job, const uint8_t *chunk, doortumble_row row)
 {
     uint32_t start = doortumble_payload_start(row);
     uint32_t length = doortumble_payload_length(row);
-    uint64_t answer = doortumble_body(chunk, DOORTUMBLE_CHUNK_BYTES, start, length, 0, 0, job->sheet, SHEET_LEN, job->owners,
-                                      OWNERS_LEN);
+    uint64_t answer = doortumble_bodies(chunk, DOORTUMBLE_CHUNK_BYTES, start, length, 0, 0, job->sheet, SHEET_LEN, job->owners,
+                                        OWNERS_LEN);
     uint64_t n;
 
     if (doortumble_refused(answer))

@@ -1,19 +1,20 @@
 // doortumble.h: read Windows event logs from C (C99 or later) or C++.
 //
-// Seven calls of the reader, and the merge, over what the caller lends:
+// Eight calls of the reader, and the merge, over what the caller lends:
 //
 //   doortumble_list_file      the records of a whole log file, six words a row
 //   doortumble_list           the records of a chunk, five words a row
 //   doortumble_body           the tokens of a record's stream, two words a token, and which token each belongs to, where the
 //                             stream is one event body
+//   doortumble_bodies         the same with the bodies that its values hold (an archive of its own)
 //   doortumble_widen          a stream's sheet from a kept one of the old layout, which has one word a token
 //   doortumble_narrow         a sheet of the old layout from one of two words a token
 //   doortumble_file_header    the numbers of a log file's header, and whether its checksum is right
 //   doortumble_chunk_header   the numbers of a chunk's header, and whether its two checksums are right
 //   doortumble_merge          two controllers' lists of writes merged, three words a row (an archive of its own)
 //
-// To read a record, hand its row to doortumble_body like this: the stream is the WHOLE chunk, since names are offsets in the chunk
-// (of a file: the 65,536 bytes from the row's chunk on); start and length are doortumble_payload_start and
+// To read a record, hand its row to doortumble_body or doortumble_bodies like this: the stream is the WHOLE chunk, since names are
+// offsets in the chunk (of a file: the 65,536 bytes from the row's chunk on); start and length are doortumble_payload_start and
 // doortumble_payload_length of the row; both flags are 0, since the open tokens of a record carry no dependency and its names are
 // not inline.
 // examples/records.c does just that.
@@ -26,8 +27,9 @@
 //   - The lent words must not overlap the bytes or the words that are given, and nobody may change any of them while the call
 //     runs.
 //
-// Link with target/staticlib/libdoortumble.a, which `rt staticlib doortumble` writes; doortumble_merge, and it alone, is in
-// target/staticlib/libmerge_call.a (`rt staticlib merge_call`), which links by itself or beside the other.
+// Link with target/staticlib/libdoortumble.a, which `rt staticlib doortumble` writes; doortumble_bodies, and it alone, is in
+// target/staticlib/libnest_call.a (`rt staticlib nest_call`), and doortumble_merge in target/staticlib/libmerge_call.a
+// (`rt staticlib merge_call`). Each links by itself or beside the others.
 #ifndef DOORTUMBLE_H
 #define DOORTUMBLE_H
 
@@ -75,8 +77,10 @@ enum {
     DOORTUMBLE_WRONG_FILE = 18,     // fewer than 128 bytes, or wrong file magic; place: 0
     DOORTUMBLE_WRONG_SHEET = 19,    // not the stream's sheet; place: number of the first word wrong, missing or extra
     DOORTUMBLE_DISAGREE = 20,       // attribute bit and attributes disagree; place: token number
+    DOORTUMBLE_NINTH_LEVEL = 21,    // a body in a value would be the ninth level; place: the value's start
     DOORTUMBLE_LONG_LIST = 27,      // a list of writes too long; place: 0 for the primary's, else 1
-    DOORTUMBLE_SHORT_RESULT = 28    // result too short; place: rows needed
+    DOORTUMBLE_SHORT_RESULT = 28,   // result too short; place: rows needed
+    DOORTUMBLE_PAST_VALUE = 29      // the walk of a body in a value ends past it; place: the value's start
 };
 
 // Why, in words, for the person who has to act on it.
@@ -124,6 +128,10 @@ static inline const char *doortumble_why(unsigned number)
                "with another start, length or flags";
     case DOORTUMBLE_DISAGREE:
         return "an element has attributes that its open token does not announce, or lacks the ones that it announces";
+    case DOORTUMBLE_NINTH_LEVEL:
+        return "a value holds a body eight levels down already, and only eight are read";
+    case DOORTUMBLE_PAST_VALUE:
+        return "the tokens in a value end past it: its size is wrong, or they are damaged";
     case DOORTUMBLE_LONG_LIST:
         return "a list has more than 4,096 writes: the primary's (place 0), or else the other's (place 1)";
     case DOORTUMBLE_SHORT_RESULT:
@@ -425,6 +433,23 @@ static inline doortumble_chunk_header_fields doortumble_chunk_header_of(const ui
 uint64_t doortumble_body(const uint8_t *stream, size_t stream_len, uint32_t start, uint32_t length, uint32_t dependencies,
                          uint32_t inline_names, uint64_t *sheet, size_t sheet_len, uint32_t *table, size_t table_len);
 
+// Read a stream as one event body and, in it, the bodies that values of type 21 hold, as a record of Windows holds its event. Such a
+// value is read as a window of the same stream, without dependencies and with the same kind of names, before the next value is.
+//
+// The parameters are those of doortumble_body. The tokens of a body in a value come right after their instance, and all tokens are
+// numbered through: the owners in the table, the token numbers in the places of 13, 14 and 20, the count in that of 15 and the answer
+// count all of them. Of each token the sheet has its level (doortumble_token's level): 0 for the stream's own, and one more than its
+// instance's for a token in a value. Each body obeys the grammar on its own; the root of a body in a value has no owner.
+//
+// Answer: as doortumble_body, with two refusals more, both at the value's start and after its own read: 21, the value would be a ninth
+// level, and 29, the walk in it ends past it. A value of type 21 in which no token stands is no body: 15. What a value holds is
+// judged before the next value is read, so that a refusal need not be doortumble_body's.
+//
+// A refusal leaves the sheet and the table as they were; words past the last token's stay in both. Nothing is kept or allocated,
+// at most 1 MiB of stack is needed, eight levels down too, and a null pointer with length 0 is allowed.
+uint64_t doortumble_bodies(const uint8_t *stream, size_t stream_len, uint32_t start, uint32_t length, uint32_t dependencies,
+                           uint32_t inline_names, uint64_t *sheet, size_t sheet_len, uint32_t *table, size_t table_len);
+
 // The kinds of tokens, with their bytes in the stream.
 enum {
     DOORTUMBLE_KIND_INSTANCE = 1,      // 0C: a template with its values
@@ -444,11 +469,11 @@ enum {
 
 // The two words of token n are sheet[2 * n] and sheet[2 * n + 1], most significant bit first:
 //
-//   bit    63   60 59           43 42           26 25          10  9   8  7      0
-//         +-------+---------------+---------------+--------------+---+---+--------+
-//   first | kind  |     place     |    length     |    number    | f | a | 0 .. 0 |
-//         |   4   |      17       |      17       |      16      | 1 | 1 |   8    |
-//         +-------+---------------+---------------+--------------+---+---+--------+
+//   bit    63   60 59           43 42           26 25          10  9   8  7   4 3   0
+//         +-------+---------------+---------------+--------------+---+---+-----+-----+
+//   first | kind  |     place     |    length     |    number    | f | a |level|  0  |
+//         |   4   |      17       |      17       |      16      | 1 | 1 |  4  |  4  |
+//         +-------+---------------+---------------+--------------+---+---+-----+-----+
 //
 //   bit    63                            32 31                                   0
 //         +--------------------------------+--------------------------------------+
@@ -458,6 +483,8 @@ enum {
 //
 //   f  flag
 //   a  announced
+//
+// The level is 0 in every sheet but those of doortumble_bodies.
 //
 // A sheet of the old layout has one word a token, and no name: its word n is the first word of token n here, sheet[2 * n], with
 // announced cleared (& ~(UINT64_C(1) << 8)). All other fields are in the same bits. So a program that was made for it lends twice
@@ -471,6 +498,7 @@ typedef struct doortumble_token {
     unsigned number;    // open: its dependency; char ref: the char; substitution: the value's number; else 0
     unsigned flag;      // open: 1 where it has a dependency (0 is one too); substitution: 1 where it is optional; else 0
     unsigned announced; // open: 1 where its byte is 41, which says that attributes follow, 0 where it is 01; else 0
+    unsigned level;     // 0, or from doortumble_bodies how many values it stands in, 0 to 8
     uint32_t name;      // offset of its name in the stream, see doortumble_has_name; 0 where it has none
 } doortumble_token;
 
@@ -486,6 +514,7 @@ static inline doortumble_token doortumble_token_at(const uint64_t *sheet, uint64
     token.number = (words[0] >> 10) & 0xFFFF;
     token.flag = (words[0] >> 9) & 1;
     token.announced = (words[0] >> 8) & 1;
+    token.level = (words[0] >> 4) & 0xF;
     token.name = (words[1] >> 32) & 0xFFFFFFFF;
     return token;
 }

@@ -46,7 +46,7 @@ pub use evtx_file_header::{EvtxFileHeader, HeaderFlags};
 pub use evtx_parser::{EvtxParser, ParserSettings};
 pub use evtx_record::EvtxRecord;
 #[doc(hidden)]
-pub use standins::{guid::Guid, model, mta};
+pub use standins::{guid::Guid, mta};
 
 pub type ChunkOffset = u32;
 pub type AnsiCodec = &'static Encoding;

@@ -93,6 +93,15 @@ pub fn open(chunk: &[u8]) -> Call<'_> {
 
 /// The token walk of a stream, two words a token.
 pub fn sheet(stream: &[u8], asked: Asked) -> Call<'_> {
+    walk::<false>(stream, asked)
+}
+
+/// The token walks of a stream and of the streams in its values of type 21, two words a token: these after their instance's.
+pub fn nested(stream: &[u8], asked: Asked) -> Call<'_> {
+    walk::<true>(stream, asked)
+}
+
+fn walk<const NESTED: bool>(stream: &[u8], asked: Asked) -> Call<'_> {
     // The printed walk takes names for inline ones where it is given no chunk; it looks at nothing
     // in it.
     let header: &EvtxChunkHeader = Box::leak(Box::new(raw_walk::blank_header()));
@@ -102,7 +111,7 @@ pub fn sheet(stream: &[u8], asked: Asked) -> Call<'_> {
         let chunk = (!asked.inline_names).then_some(&chunk);
         // SAFETY: the bytes live as long as this closure, and the words are lent for the call.
         unsafe {
-            sheet_into(
+            sheet_into::<NESTED>(
                 black_box(stream.as_ptr()),
                 stream.len(),
                 asked.start as u32,
@@ -205,7 +214,7 @@ fn refused_row(err: &EvtxError) -> [u64; 5] {
 /// `stream` and `sheet` are good for their lengths.
 #[inline(never)]
 #[allow(clippy::too_many_arguments, reason = "the port's call has as many")]
-unsafe extern "C" fn sheet_into(
+unsafe extern "C" fn sheet_into<const NESTED: bool>(
     stream: *const u8,
     stream_len: usize,
     start: u32,
@@ -224,12 +233,13 @@ unsafe extern "C" fn sheet_into(
         ansi_codec: WINDOWS_1252,
         bump: arena,
     };
-    let mut sheet = Sheet {
+    let mut sheet = Sheet::<NESTED> {
         // SAFETY: as the caller says.
         words: unsafe { from_raw_parts_mut(sheet, sheet_len) }
             .as_chunks_mut()
             .0,
         count: 0,
+        stream,
     };
     let (start, length) = (start as usize, length as usize);
     match walk_tokens(stream, start, length, dependencies != 0, &mut sheet) {
@@ -238,13 +248,14 @@ unsafe extern "C" fn sheet_into(
     }
 }
 
-/// A sink that writes two words a token.
-struct Sheet<'s> {
+/// A sink that writes two words a token, and walks the streams in values too if it is asked to.
+struct Sheet<'s, 'a, const NESTED: bool> {
     words: &'s mut [[u64; 2]],
     count: usize,
+    stream: Stream<'a>,
 }
 
-impl Sheet<'_> {
+impl<'a, const NESTED: bool> Sheet<'_, 'a, NESTED> {
     #[inline(always)]
     fn put(&mut self, kind: u8, number: u16, flag: bool, name: ChunkOffset) -> EvtxResult<()> {
         let Some(words) = self.words.get_mut(self.count) else {
@@ -256,15 +267,29 @@ impl Sheet<'_> {
         Ok(())
     }
 
+    /// The walk of a part of the stream.
+    fn inner(&mut self, bytes: &'a [u8]) -> EvtxResult<()> {
+        let start = bytes.as_ptr().addr() - self.stream.data.as_ptr().addr();
+        walk_tokens(self.stream, start, bytes.len(), false, self)
+    }
+
     #[inline(always)]
     fn nameless(&mut self, kind: u8, number: u16, flag: bool) -> EvtxResult<()> {
         self.put(kind, number, flag, 0)
     }
 }
 
-impl<'a> TokenSink<'a> for Sheet<'_> {
-    fn template_instance(&mut self, _: BinXmlTemplateValues<'a>) -> EvtxResult<()> {
-        self.nameless(kinds::INSTANCE, 0, false)
+impl<'a, const NESTED: bool> TokenSink<'a> for Sheet<'_, 'a, NESTED> {
+    fn template_instance(&mut self, instance: BinXmlTemplateValues<'a>) -> EvtxResult<()> {
+        self.nameless(kinds::INSTANCE, 0, false)?;
+        if NESTED {
+            for value in &instance.values {
+                if let BinXmlValue::BinXmlType(bytes) = value {
+                    self.inner(bytes)?;
+                }
+            }
+        }
+        Ok(())
     }
     fn open_start(&mut self, name: ChunkOffset, dependency: Option<u16>) -> EvtxResult<()> {
         let (number, flag) = (dependency.unwrap_or(0), dependency.is_some());

@@ -1,5 +1,5 @@
 //! The made token cases reach every kind of token and every refusal of a walk, those of bodies also every refusal of the
-//! grammar and of lent words, those of kept sheets that of a wrong one, and each is answered.
+//! grammar and of lent words, those of kept sheets that of a wrong one, those of bodies inside values every level, and each is answered.
 
 use compare::cases;
 use compare::oracle::batch;
@@ -256,6 +256,44 @@ fn made_kept_cases() {
     }
 }
 
+/// The levels that the sheets of mode N reach.
+fn levels(answers: &str) -> BTreeSet<u64> {
+    let sheets = answers
+        .lines()
+        .filter_map(|line| line.strip_prefix("sheet "));
+    let first = sheets.flat_map(|words| words.split(' ').step_by(2));
+    let words = first.map(|word| u64::from_str_radix(word, 16).expect("a word"));
+    let tokens = words.filter(|word| *word != u64::MAX);
+    tokens.map(|word| word >> 4 & 0xf).collect()
+}
+
+/// Every level, every refusal of a walk and of the grammar, those of request P9, and rooms around the need.
+fn reaches_nests(answers: &str) {
+    let (_, words) = reached_by_bodies(answers);
+    for number in [2, 3, 7, 8, 9, 10, 11, 12, 13, 14, 15, 16, 20, 21, 29] {
+        assert!(words.contains(&number), "no refusal {number} in mode N");
+    }
+    assert_eq!(levels(answers), (0..=8).collect());
+    assert_eq!(reached_both(answers).len(), 9);
+}
+
+#[test]
+fn made_nest_cases() {
+    const COUNT: usize = 50_000;
+    let answers = answers("nest", 1, COUNT);
+    assert_eq!(answers.lines().filter(|line| *line == ".").count(), COUNT);
+    let accepted = |line: &&str| line.starts_with("answer 0");
+    assert!(answers.lines().filter(accepted).count() > COUNT / 5);
+    reaches_nests(&answers);
+}
+
+/// So many values compare/run asks for.
+#[test]
+fn short_nests() {
+    let cases = cases::make("nests", 0, usize::MAX).expect("a kind");
+    assert_eq!(cases.count(), 284_550);
+}
+
 /// So many lists compare/run asks for: all up to four tokens, and with one item for the four of five and six; those up to three also
 /// after a fragment header and with the names that a sheet shows, and those up to two with rooms around the need. The
 /// first of them reach each refusal.
@@ -327,6 +365,8 @@ fn stored_cases() {
     let (merged, stored): (Vec<_>, Vec<_>) = stored.partition(|case| case.mode == b'M');
     assert_eq!(reached_by_merges(&answers_to(merged.into_iter())), [28]);
     let (kept, others): (Vec<_>, Vec<_>) = stored.into_iter().partition(|case| case.mode == b'K');
+    let (nests, others): (Vec<_>, Vec<_>) = others.into_iter().partition(|case| case.mode == b'N');
+    reaches_nests(&answers_to(nests.into_iter()));
     let answers = answers_to(others.into_iter());
     assert!(answers.ends_with(".\nbad case\n"));
     reaches_all(&answers);

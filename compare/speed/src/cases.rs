@@ -50,6 +50,10 @@ pub enum Kind {
     Sheet,
     /// Sheet and owner table by one call. The Rust has no owner table: it makes the sheet.
     Body,
+    /// The same with the bodies inside values, on streams that have none: beside the port's own joined call.
+    Bodies,
+    /// The same on streams that have some. The Rust walks the stream and those in its values.
+    Nested,
     /// The sheet from a kept one. The Rust has no such thing: it stands beside the port's own sheet.
     Widen,
     Merge,
@@ -110,6 +114,14 @@ impl Case {
                 Side::Port => port::widen(bytes, *asked),
                 _ => port::sheet(bytes, *asked),
             },
+            (Kind::Bodies, Input::Stream(Stream { bytes, asked })) => match side {
+                Side::Port => port::bodies(bytes, *asked),
+                _ => port::body(bytes, *asked),
+            },
+            (Kind::Nested, Input::Stream(Stream { bytes, asked })) => match side {
+                Side::Port => port::bodies(bytes, *asked),
+                _ => timed::nested(bytes, *asked),
+            },
             (Kind::Merge, Input::Lists(Lists { primary, other })) => match side {
                 Side::Port => port::merge(primary, other, true),
                 _ => timed::merge(primary, other, true),
@@ -155,7 +167,7 @@ impl Case {
     /// What of the word of this number the Rust tells: of a sheet not all.
     fn told(&self, at: usize) -> u64 {
         match self.kind {
-            Kind::Sheet | Kind::Body if at < ROOM => TOLD[at % 2],
+            Kind::Sheet | Kind::Body | Kind::Nested if at < ROOM => TOLD[at % 2],
             _ => !0,
         }
     }
@@ -205,13 +217,14 @@ pub fn all() -> Vec<Case> {
         goal: (chunks == 256).then_some(if recovery { 1.0 } else { 0.5 }),
         input: Input::File(inputs::log(chunks)),
     };
-    use Kind::{Body, Sheet, Widen};
+    use Kind::{Bodies, Body, Nested, Sheet, Widen};
     let stream = |name, kind, stream: Stream| Case {
         name,
         kind,
         goal: Some(match kind {
             Body if stream.asked.length < 1000 => 0.8,
             Body => 1.2,
+            Bodies => 1.1,
             Widen => 1.3,
             _ => 1.0,
         }),
@@ -268,6 +281,14 @@ pub fn all() -> Vec<Case> {
         stream("body: instances", Body, inputs::instances()),
         stream("body: single", Body, inputs::single()),
         stream("body: single in chunk", Body, inputs::single_in_chunk()),
+        stream("bodies: elements", Bodies, elements(false, false)),
+        stream("bodies: dependencies", Bodies, elements(true, false)),
+        stream("bodies: inline names", Bodies, elements(false, true)),
+        stream("bodies: instances", Bodies, inputs::instances()),
+        stream("bodies: single", Bodies, inputs::single()),
+        stream("bodies: single in chunk", Bodies, inputs::single_in_chunk()),
+        stream("bodies: record", Nested, inputs::record()),
+        stream("bodies: record in chunk", Nested, inputs::record_in_chunk()),
         stream("widen: elements", Widen, elements(false, false)),
         merge("merge: tags rise", Tags::Rising, 4096),
         merge("merge: one tag", Tags::One, 4096),

@@ -237,15 +237,19 @@ pub fn instances() -> Stream {
 
 /// What a record mostly carries: a fragment header, an instance of 20 values, the end.
 pub fn single() -> Stream {
-    let bytes = [&[0x0f, 1, 1, 0][..], &instance(), &[0]].concat();
+    let bytes = [FRAGMENT, &instance(), &[0]].concat();
     Stream::whole(bytes, false, false)
 }
 
 /// The same as the record of a chunk, in the chunk.
 pub fn single_in_chunk() -> Stream {
-    let Stream { bytes, mut asked } = single();
-    let mut chunk = records(512, true);
-    asked.start = FIRST + 63 * 512 + 24;
+    in_chunk(single(), 512)
+}
+
+/// A stream in a record of this size, about in the middle of a chunk of such records.
+fn in_chunk(Stream { bytes, mut asked }: Stream, size: usize) -> Stream {
+    let mut chunk = records(size, true);
+    asked.start = FIRST + CHUNK / size / 2 * size - size + 24;
     chunk[asked.start..asked.start + bytes.len()].copy_from_slice(&bytes);
     Stream {
         bytes: chunk,
@@ -264,6 +268,25 @@ const NAMES: [&str; 10] = [
     "Name",
     "ProcessID",
     "ThreadID",
+];
+
+const FRAGMENT: &[u8] = &[0x0f, 1, 1, 0];
+
+/// The type whose values hold a stream of their own.
+const BODY: u8 = 0x21;
+
+/// Type codes and sizes of the values of an event's data.
+const EVENT_DATA: [(u8, u16); 10] = [
+    (0x13, 28), // SID
+    (0x01, 24), // STRING
+    (0x01, 38), // STRING
+    (0x15, 8),  // HEX_INT64
+    (0x01, 90), // STRING
+    (0x08, 4),  // UINT32
+    (0x0f, 16), // GUID
+    (0x01, 60), // STRING
+    (0x14, 4),  // HEX_INT32
+    (0x01, 30), // STRING
 ];
 
 /// Type codes and sizes of an instance's values: those of a record's system part and a few more.
@@ -290,26 +313,49 @@ const VALUES: [(u8, u16); 20] = [
     (0x01, 30), // STRING
 ];
 
-/// An instance whose definition stands elsewhere.
+/// An instance of these values, whose definition stands elsewhere.
 fn instance() -> Vec<u8> {
+    instance_of(&VALUES, &[])
+}
+
+/// The same with one value more, of type 21, that holds these bytes, if there are any.
+fn instance_of(values: &[(u8, u16)], inner: &[u8]) -> Vec<u8> {
+    let mut values = values.to_vec();
+    if !inner.is_empty() {
+        values.push((BODY, inner.len() as u16));
+    }
     let mut bytes = vec![0x0c, 1];
     bytes.extend(7_u32.to_le_bytes());
     bytes.extend(0_u32.to_le_bytes());
-    bytes.extend((VALUES.len() as u32).to_le_bytes());
-    for (code, size) in VALUES {
+    bytes.extend((values.len() as u32).to_le_bytes());
+    for (code, size) in &values {
         bytes.extend(size.to_le_bytes());
-        bytes.extend([code, 0]);
+        bytes.extend([*code, 0]);
     }
-    for (code, size) in VALUES {
+    for (code, size) in values {
         let size = usize::from(size);
         match code {
             0x13 => bytes.extend([1, 5].into_iter().chain([0; 26])),
             0x0d => bytes.extend(1_u32.to_le_bytes()),
             0x01 => bytes.extend(b"S\0".repeat(size / 2)),
+            BODY => bytes.extend(inner),
             _ => bytes.extend(vec![0x11; size]),
         }
     }
     bytes
+}
+
+/// A record as Windows writes it: a fragment header, an instance of 18 values, the last of which holds a fragment header and an instance of 10
+/// values, the data of an event.
+pub fn record() -> Stream {
+    let inner = [FRAGMENT, &instance_of(&EVENT_DATA, &[])].concat();
+    let bytes = [FRAGMENT, &instance_of(&VALUES[..17], &inner), &[0]].concat();
+    Stream::whole(bytes, false, false)
+}
+
+/// The same as a record of a chunk, in the chunk.
+pub fn record_in_chunk() -> Stream {
+    in_chunk(record(), 1024)
 }
 
 struct Maker {

@@ -20,40 +20,6 @@ unsafe extern "C" {
         rows_len: usize,
     ) -> u64;
     fn doortumble_bench_checksum(chunk: *const u8, chunk_len: usize) -> u32;
-    fn doortumble_bench_sheet(
-        stream: *const u8,
-        stream_len: usize,
-        start: u32,
-        length: u32,
-        dependencies: u32,
-        inline_names: u32,
-        sheet: *mut u64,
-        sheet_len: usize,
-    ) -> u64;
-    fn doortumble_widen(
-        stream: *const u8,
-        stream_len: usize,
-        start: u32,
-        length: u32,
-        dependencies: u32,
-        inline_names: u32,
-        old: *const u64,
-        old_len: usize,
-        sheet: *mut u64,
-        sheet_len: usize,
-    ) -> u64;
-    fn doortumble_body(
-        stream: *const u8,
-        stream_len: usize,
-        start: u32,
-        length: u32,
-        dependencies: u32,
-        inline_names: u32,
-        sheet: *mut u64,
-        sheet_len: usize,
-        table: *mut u32,
-        table_len: usize,
-    ) -> u64;
     fn doortumble_merge(
         primary: *const u64,
         primary_len: usize,
@@ -63,6 +29,30 @@ unsafe extern "C" {
         result: *mut u64,
         result_len: usize,
     ) -> u64;
+}
+
+/// Calls on a stream, and the words that they are given and lent.
+macro_rules! calls_on_stream {
+    ($(fn $call:ident($($words:ident: $type:ty),+);)+) => {
+        unsafe extern "C" {
+            $(fn $call(
+                stream: *const u8,
+                stream_len: usize,
+                start: u32,
+                length: u32,
+                dependencies: u32,
+                inline_names: u32,
+                $($words: $type),+
+            ) -> u64;)+
+        }
+    };
+}
+
+calls_on_stream! {
+    fn doortumble_bench_sheet(sheet: *mut u64, sheet_len: usize);
+    fn doortumble_widen(old: *const u64, old_len: usize, sheet: *mut u64, sheet_len: usize);
+    fn doortumble_body(sheet: *mut u64, sheet_len: usize, table: *mut u32, table_len: usize);
+    fn doortumble_bodies(sheet: *mut u64, sheet_len: usize, table: *mut u32, table_len: usize);
 }
 
 pub fn merge<'a>(primary: &'a [u64], other: &'a [u64], rule_two: bool) -> Call<'a> {
@@ -146,11 +136,21 @@ pub fn widen(stream: &[u8], asked: Asked) -> Call<'_> {
 }
 
 /// Sheet and table by one call. Behind the sheet's words stands the table, two of its words of 32 bits in each of the lent ones.
+macro_rules! joined {
+    ($call:ident, $stream:ident, $asked:ident) => {
+        Box::new(move |words| {
+            let (sheet, table) = words.split_at_mut(ROOM);
+            let (words, room) = (sheet.as_mut_ptr(), sheet.len());
+            let (owners, count) = (table.as_mut_ptr().cast(), 2 * table.len());
+            on_stream!($call, $stream, $asked, words, room, owners, count)
+        })
+    };
+}
+
 pub fn body(stream: &[u8], asked: Asked) -> Call<'_> {
-    Box::new(move |words| {
-        let (sheet, table) = words.split_at_mut(ROOM);
-        let (words, room) = (sheet.as_mut_ptr(), sheet.len());
-        let (owners, count) = (table.as_mut_ptr().cast(), 2 * table.len());
-        on_stream!(doortumble_body, stream, asked, words, room, owners, count)
-    })
+    joined!(doortumble_body, stream, asked)
+}
+
+pub fn bodies(stream: &[u8], asked: Asked) -> Call<'_> {
+    joined!(doortumble_bodies, stream, asked)
 }

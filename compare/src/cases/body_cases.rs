@@ -46,7 +46,8 @@ pub fn joined(flags: u8, rooms: [u32; 2], start: u32, length: u32, stream: &[u8]
     lending(b'B', flags, &rooms, start, length, stream)
 }
 
-fn lending(mode: u8, flags: u8, rooms: &[u32], start: u32, length: u32, stream: &[u8]) -> Case {
+/// A case that lends so many words of each kind.
+pub fn lending(mode: u8, flags: u8, rooms: &[u32], start: u32, length: u32, stream: &[u8]) -> Case {
     let mut data: Vec<u8> = rooms.iter().flat_map(|room| room.to_le_bytes()).collect();
     data.extend(stream);
     case(mode, flags, start, length, &data)
@@ -150,10 +151,7 @@ fn wide(random: &mut Random) -> Vec<Case> {
 
 /// An element whose content is these kinds again and again, up to a stream's limit.
 pub fn wide_body(content: &[u8]) -> Vec<u8> {
-    let around = shortest_of_list(&[OPEN, CLOSE_START, CLOSE_ELEMENT]).len();
-    let rounds = (SIZE - around) / shortest_of_list(content).len();
-    let content = content.repeat(rounds);
-    [&[OPEN, CLOSE_START], &content[..], &[CLOSE_ELEMENT]].concat()
+    lists::filled(content, SIZE)
 }
 
 /// A stream at the limit of its length.
@@ -197,7 +195,7 @@ fn owner_table(stream: &Stream, flags: u8) -> Case {
 }
 
 /// A call of a mode that lends words for so many tokens, or about as many.
-fn lent(
+pub fn lent(
     random: &mut Random,
     mode: u8,
     stream: &Stream,
@@ -212,7 +210,7 @@ fn lent(
 
 /// How many words are lent for so many tokens: as many as each needs, about as many, or as many as the other needs; seldom as
 /// many as can be.
-pub fn rooms(random: &mut Random, tokens: usize) -> [u32; 2] {
+fn rooms(random: &mut Random, tokens: usize) -> [u32; 2] {
     let [sheet, table] = needed(tokens);
     if random.once_in(3) {
         return [sheet, table];

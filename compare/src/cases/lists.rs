@@ -1,6 +1,7 @@
 //! Lists of token kinds: bodies of document 01's grammar with document 02's requests P4 and P5, changed ones, and all short ones.
 
 use super::random::Random;
+use super::streams::shortest_of_list;
 use crate::oracle::kinds::{
     ALL, ANNOUNCING, ATTRIBUTE, CDATA, CLOSE_ELEMENT, CLOSE_EMPTY, CLOSE_START, INSTANCE, ITEMS,
     OPEN, PI_DATA, PI_TARGET,
@@ -8,13 +9,20 @@ use crate::oracle::kinds::{
 
 /// A body: an instance, or an element with so many levels at most, and now and then a pair before and after it.
 pub fn body(random: &mut Random, levels: usize) -> Vec<u8> {
+    let mut root = Vec::new();
+    if random.once_in(8) {
+        root.push(INSTANCE);
+    } else {
+        element(random, levels, &mut root);
+    }
+    around(random, &root)
+}
+
+/// A root, and now and then a pair before and after it.
+pub fn around(random: &mut Random, root: &[u8]) -> Vec<u8> {
     let mut list = Vec::new();
     pair(random, &mut list);
-    if random.once_in(8) {
-        list.push(INSTANCE);
-    } else {
-        element(random, levels, &mut list);
-    }
+    list.extend(root);
     pair(random, &mut list);
     list
 }
@@ -70,6 +78,13 @@ pub fn nested(levels: usize, inner: &[u8]) -> Vec<u8> {
         list.extend(vec![CLOSE_ELEMENT; levels]);
     }
     list
+}
+
+/// An element whose content is these kinds again and again, as many as there are in so many bytes.
+pub fn filled(content: &[u8], bytes: usize) -> Vec<u8> {
+    let around = shortest_of_list(&[OPEN, CLOSE_START, CLOSE_ELEMENT]).len();
+    let rounds = (bytes - around) / shortest_of_list(content).len();
+    nested(1, &content.repeat(rounds))
 }
 
 /// A body that goes exactly so many levels down at one place, with other elements on the way.

@@ -7,11 +7,13 @@ pub mod file_cases;
 mod kept_cases;
 pub mod lists;
 pub mod merge_cases;
+pub mod nest_cases;
 pub mod random;
 pub mod real;
 mod short;
 mod stored;
 mod stored_bodies;
+mod stored_nests;
 mod stored_tokens;
 mod streams;
 pub mod texts;
@@ -23,7 +25,7 @@ use random::Random;
 pub use stored::damaged_pair;
 
 /// The first `count` cases of a kind, if there is such a kind. The stored ones, those of the type
-/// codes, texts, short streams and short lists are the same for every seed; of `three` the seed is the first byte; the others
+/// codes, texts, short streams, short lists and short nests are the same for every seed; of `three` the seed is the first byte; the others
 /// have no end.
 pub fn make(kind: &str, seed: u64, count: usize) -> Option<Box<dyn Iterator<Item = Case>>> {
     let of_one_input = match kind {
@@ -32,6 +34,7 @@ pub fn make(kind: &str, seed: u64, count: usize) -> Option<Box<dyn Iterator<Item
         "three" => return Some(Box::new(short::of_three(seed as u8).take(count))),
         "types" => return Some(Box::new(types::cases().take(count))),
         "texts" => return Some(Box::new(texts::cases(texts::MOST).take(count))),
+        "nests" => return Some(Box::new(nest_cases::short_nests().take(count))),
         "lists" => return Some(Box::new(body_cases::short_lists().take(count))),
         "chunk" => chunk_cases::of_one_chunk,
         "pair" => chunk_cases::of_one_pair,
@@ -39,6 +42,7 @@ pub fn make(kind: &str, seed: u64, count: usize) -> Option<Box<dyn Iterator<Item
         "token" => token_cases::of_one_stream,
         "body" => body_cases::of_one_body,
         "kept" => kept_cases::of_one_sheet,
+        "nest" => nest_cases::of_one_nest,
         "merge" => merge_cases::of_two_lists,
         _ => return None,
     };

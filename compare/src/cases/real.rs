@@ -1,21 +1,21 @@
 //! Cases on a log that Windows wrote: each chunk, each record, each stream and each template definition in it.
 
 use super::Case;
-use super::body_cases::{joined, more, sheet};
+use super::body_cases::{joined, lending, more, sheet};
 use super::chunk_cases;
 use super::file_cases::MOST;
+use super::nest_cases;
 use super::token_cases::case;
 use crate::document::chunks::Chunk;
 use crate::document::streams;
 use crate::oracle::CHUNK_SIZE;
 use crate::oracle::chunk::{Answer, Record};
+use crate::oracle::nests::BODY;
 use crate::oracle::tokens::Asked;
 use std::collections::{BTreeMap, BTreeSet};
 use std::fmt;
 
 const FILE_HEADER: usize = 4096;
-/// A value that holds a stream of its own.
-const BODY: u8 = 0x21;
 /// Before a definition's tokens: the next one's offset, a GUID, and how many bytes the tokens take.
 const DEFINITION_HEAD: usize = 24;
 const DEFINITION_SIZE: usize = 20;
@@ -222,15 +222,18 @@ fn asked(start: usize, length: usize, dependencies: bool) -> Asked {
     }
 }
 
-/// Tokens, owner table, sheet alone and the joined call, with a word more lent than they need, or a few where they are refused.
-fn of_stream(chunk: &[u8], walk: Asked) -> [Case; 4] {
+/// Tokens, owner table, sheet alone, the joined call and that with the bodies in values, with a word more lent than they need, or a few
+/// where they are refused.
+fn of_stream(chunk: &[u8], walk: Asked) -> [Case; 5] {
     let (start, length) = (walk.start as u32, walk.length as u32);
     let flags = if walk.dependencies { DEPENDENCIES } else { 0 };
     let rooms = more(streams::walk(chunk, walk).tokens.len(), 1);
+    let through = more(nest_cases::tokens(chunk, flags, (start, length)), 1);
     [
         case(b'T', flags, start, length, chunk),
         case(b'O', flags, start, length, chunk),
         sheet(flags, rooms[0], start, length, chunk),
         joined(flags, rooms, start, length, chunk),
+        lending(b'N', flags, &through, start, length, chunk),
     ]
 }

@@ -15,10 +15,15 @@ const SETTINGS: [u8; 4] = [0, 1, 2, 3];
 
 /// Every stream of up to two bytes, and of three and four over the alphabet, in all four settings.
 pub fn cases() -> impl Iterator<Item = Case> {
+    streams().flat_map(in_all_settings)
+}
+
+/// Every stream of up to two bytes, and of three and four over the alphabet.
+pub fn streams() -> impl Iterator<Item = Vec<u8>> {
     let bytes: Vec<u8> = (0..=255).collect();
     let short = (0..=2).flat_map(move |length| every(bytes.clone(), length));
     let meant = (3..=4).flat_map(|length| every(ALPHABET.to_vec(), length));
-    short.chain(meant).flat_map(in_all_settings)
+    short.chain(meant)
 }
 
 /// Every stream of three bytes that begins with this one.

@@ -7,6 +7,7 @@ use super::file_cases;
 use super::kept_cases;
 use super::merge_cases;
 use super::stored_bodies;
+use super::stored_nests;
 use super::stored_tokens;
 use crate::Hasher;
 
@@ -18,6 +19,7 @@ pub fn cases() -> Vec<Case> {
     cases.extend(short_chunks());
     cases.extend(stored_tokens::cases());
     cases.extend(stored_bodies::cases());
+    cases.extend(stored_nests::cases());
     cases.extend(file_cases::stored());
     cases.extend(kept_cases::stored());
     cases.extend(merge_cases::stored());

@@ -88,6 +88,21 @@ pub fn of_list(random: &mut Random, list: &[u8]) -> Stream {
     maker.stream
 }
 
+/// A stream of a body with bodies in its values, so many in each other at most; with slips, not all are sound, and not all values end
+/// where their body does.
+pub fn nested(random: &mut Random, levels: usize) -> Stream {
+    let often = random.one_of(&[40, 15, 8]);
+    // In many levels there is much that may go wrong.
+    let slips = random.one_of(&[0, 0, often * levels.div_ceil(3)]);
+    let mut maker = Maker::new(random, slips);
+    maker.nest = levels;
+    maker.instance_body(2);
+    if maker.random.once_in(2) {
+        maker.put(&[0]);
+    }
+    maker.stream
+}
+
 /// The shortest token of a kind: names elsewhere, no dependency.
 pub fn shortest(kind: u8) -> &'static [u8] {
     match kind {
@@ -220,6 +235,8 @@ struct Maker<'a> {
     stream: Stream,
     /// Something is wrong once in so many times; never if 0.
     slips: usize,
+    /// So many levels of bodies may lie in values yet; where it is 0, a value of type 21 holds any bytes.
+    nest: usize,
 }
 
 impl<'a> Maker<'a> {
@@ -237,6 +254,7 @@ impl<'a> Maker<'a> {
             random,
             stream,
             slips,
+            nest: 0,
         }
     }
 
@@ -297,6 +315,45 @@ impl<'a> Maker<'a> {
         }
         let list = lists::body(self.random, levels);
         self.list(&list, levels);
+    }
+
+    /// A body whose root is an instance, mostly; with slips, its tokens are changed now and then.
+    fn instance_body(&mut self, levels: usize) {
+        let mut list = lists::body(self.random, levels);
+        if self.goes_deep() || !self.random.once_in(6) {
+            list = lists::around(self.random, &[kinds::INSTANCE]);
+        }
+        if self.slip() {
+            lists::change(self.random, &mut list);
+        }
+        self.list(&list, levels);
+    }
+
+    /// A body in a value: without dependencies; its end byte, if there is one, may have any bytes behind it.
+    fn inner_body(&mut self) {
+        let (dependencies, nest) = (self.stream.dependencies, self.nest);
+        self.stream.dependencies = false;
+        self.nest -= 1;
+        if self.random.once_in(8) {
+            self.fragment();
+        }
+        match self.nest {
+            0 if self.random.once_in(200) => {
+                let levels = self.random.between(63, 66);
+                let list = lists::deep(self.random, levels);
+                self.list(&list, 1);
+            }
+            0 => self.body(2),
+            _ => self.instance_body(2),
+        }
+        (self.stream.dependencies, self.nest) = (dependencies, nest);
+        if self.random.once_in(3) {
+            self.put(&[0]);
+            for _ in 0..self.random.one_of(&[0, 0, 1, 3]) {
+                let byte = self.random.byte();
+                self.put(&[byte]);
+            }
+        }
     }
 
     /// Tokens of these kinds, and a fragment header between some.
@@ -561,7 +618,11 @@ impl<'a> Maker<'a> {
 
     /// The table of an instance, and its values.
     fn values(&mut self) {
-        let count = self.random.one_of(&[0, 1, 1, 1, 2, 3, 6]);
+        let mut count = self.random.one_of(&[0, 1, 1, 1, 2, 3, 6]);
+        if self.goes_deep() {
+            count = count.max(1);
+        }
+        let deeper = self.random.below(count as usize + 1).saturating_sub(1) as u32;
         let wrong = [count + 1, count / 2, 100, 1 << 30, u32::MAX];
         let wrong = self.random.one_of(&wrong);
         let said = if self.slip() { wrong } else { count };
@@ -569,11 +630,19 @@ impl<'a> Maker<'a> {
 
         let first = self.position();
         let mut codes = Vec::new();
-        for _ in 0..count {
+        for number in 0..count {
             self.mark();
             let mut code = self.code(&KNOWN);
             if UNREAD.contains(&code) && !self.slip() {
                 code = self.random.one_of(&[0x01, 0x08, 0x0f, 0x86, 0x8f]);
+            }
+            let holds_body = match self.nest {
+                0 => false,
+                1..=3 => self.random.once_in(2),
+                _ => number == deeper,
+            };
+            if holds_body {
+                code = 0x21;
             }
             let pad = self.random.one_of(&[0, 0, 1, 0xff]);
             self.put(&[0, 0, code, pad]);
@@ -584,6 +653,11 @@ impl<'a> Maker<'a> {
             let size = self.sized_value(code);
             self.stream.bytes[at..at + 2].copy_from_slice(&size.to_le_bytes());
         }
+    }
+
+    /// Where many levels are to come, each goes on, and by one value.
+    fn goes_deep(&self) -> bool {
+        self.nest > 3
     }
 
     /// Writes a value with a size, and says the size.
@@ -601,6 +675,7 @@ impl<'a> Maker<'a> {
                 self.number(width);
             }
             0x13 => self.sid(),
+            0x21 if self.nest > 0 && !self.slip() => self.inner_body(),
             0x81 => {
                 for _ in 0..self.random.below(3) {
                     for _ in 0..self.random.below(4) {

@@ -5,13 +5,16 @@
 
 pub mod chunks;
 pub mod merges;
+pub mod nests;
 mod reader;
 pub mod streams;
 mod values;
 
 use crate::oracle::batch::{Case, push_rows};
+use crate::oracle::calls::push_joined;
 use crate::oracle::chunk::{Answer, State, refused, words};
 use crate::oracle::file;
+use crate::oracle::nests::by_machine;
 use crate::oracle::refusal::Refusal;
 use crate::oracle::tokens::{Asked, Row, push_single};
 use chunks::Chunk;
@@ -30,6 +33,10 @@ pub fn answer(case: &Case, out: &mut String) {
         b'T' => tokens(data, case.walk(), out),
         b'S' => single(data, case.start as usize, out),
         b'O' | b'C' | b'B' | b'K' => push_rows(case, rows(data, case.walk()), out),
+        b'N' => {
+            let joined = nests::read(data, case.walk(), by_machine);
+            push_joined(joined, case.rooms(), out);
+        }
         b'M' => merges::push(&case.parts(), case.flag(1), out),
         mode => unreachable!("a case of mode {mode}"),
     }

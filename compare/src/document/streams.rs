@@ -18,20 +18,20 @@ pub struct Instance {
 /// A name: its offset, and of an inline one whether it is well-formed UTF-16. "An inline name is judged on all its counted
 /// units"; "offset names aren't judged" (document 02, P7).
 #[derive(Clone, Copy)]
-struct Name {
+pub(super) struct Name {
     offset: u32,
     sound: Option<bool>,
 }
 
 /// An open token. "The token record gains both": "if an open byte was 41 or 01, and where its name stands" (document 02, P2).
-struct Open {
+pub(super) struct Open {
     name: Name,
     dependency: Option<u16>,
     announced: bool,
 }
 
 /// What a token holds.
-enum Held<'a> {
+pub(super) enum Held<'a> {
     Nothing,
     Instance(Instance),
     Open(Open),
@@ -64,40 +64,52 @@ pub fn walk(data: &[u8], asked: Asked) -> Walk<'_> {
     Walk { tokens, end }
 }
 
-/// "Tokens are read while the position is below start plus length; the last may run over."
 fn read_tokens<'a>(data: &'a [u8], asked: Asked, tokens: &mut Vec<Token<'a>>) -> Read<()> {
     if data.len() > CHUNK_SIZE {
         return Reader::refuse(1, 0);
     }
     let mut reader = Reader::new(data, asked.start)?;
-    while reader.at < asked.start + asked.length {
-        let place = reader.at;
-        let (kind, held) = match reader.byte()? {
-            // "Byte 00 ends the walk; 0F takes three bytes, each a read of its own; neither is handed on."
-            0x00 => break,
-            0x0f => {
-                for _ in 0..3 {
-                    reader.byte()?;
-                }
-                continue;
-            }
-            byte => read_token(byte, &mut reader, asked)?,
-        };
-        tokens.push(Token {
-            kind,
-            place,
-            next: reader.at,
-            held,
-        });
+    while let Some((place, byte)) = next_token(&mut reader, asked)? {
+        let (kind, held) = read_token(byte, &mut reader, asked, &mut |_| Ok(()))?;
+        tokens.push(Token::new(kind, place, reader.at, held));
     }
     Ok(())
 }
 
+/// The next token's place and byte: "Tokens are read while the position is below start plus length; the last may run over."
+pub(super) fn next_token(reader: &mut Reader<'_>, asked: Asked) -> Read<Option<(usize, u8)>> {
+    while reader.at < asked.start + asked.length {
+        let place = reader.at;
+        match reader.byte()? {
+            // "Byte 00 ends the walk; 0F takes three bytes, each a read of its own; neither is handed on."
+            0x00 => return Ok(None),
+            0x0f => {
+                for _ in 0..3 {
+                    reader.byte()?;
+                }
+            }
+            byte => return Ok(Some((place, byte))),
+        }
+    }
+    Ok(None)
+}
+
+/// Is handed each value of an instance when it has been read, and may refuse it.
+pub(super) type EachValue<'v> = &'v mut dyn FnMut(&Value) -> Read<()>;
+
 /// "Tokens: .."
-fn read_token<'a>(byte: u8, reader: &mut Reader<'a>, asked: Asked) -> Read<(u8, Held<'a>)> {
+pub(super) fn read_token<'a>(
+    byte: u8,
+    reader: &mut Reader<'a>,
+    asked: Asked,
+    each_value: EachValue<'_>,
+) -> Read<(u8, Held<'a>)> {
     let inline = asked.inline_names;
     Ok(match byte {
-        0x0c => (kinds::INSTANCE, Held::Instance(instance(reader)?)),
+        0x0c => (
+            kinds::INSTANCE,
+            Held::Instance(instance(reader, each_value)?),
+        ),
         0x01 | 0x41 => {
             let open = open(reader, byte == 0x41, asked)?;
             (kinds::OPEN, Held::Open(open))
@@ -199,7 +211,7 @@ fn text<'a>(reader: &mut Reader<'a>) -> Read<&'a [u8]> {
 
 /// "Instance: a byte, id u32, offset u32. If the position equals the offset: u32, 16 byte GUID, u32 n, then n bytes
 /// skipped. Count u32, then descriptors of size u16, type, a byte. The whole table is read before any value."
-fn instance(reader: &mut Reader<'_>) -> Read<Instance> {
+fn instance(reader: &mut Reader<'_>, each_value: EachValue<'_>) -> Read<Instance> {
     reader.byte()?;
     let id = reader.word()?;
     let definition = reader.word()?;
@@ -216,17 +228,30 @@ fn instance(reader: &mut Reader<'_>) -> Read<Instance> {
         table.push((size, values::read_code(reader)?));
         reader.byte()?;
     }
-    let values = table.into_iter();
-    let values = values.map(|(size, code)| values::read_sized(reader, code, size));
+    let mut values = Vec::with_capacity(table.len());
+    for (size, code) in table {
+        let value = values::read_sized(reader, code, size)?;
+        each_value(&value)?;
+        values.push(value);
+    }
     Ok(Instance {
         id,
         definition,
         guid,
-        values: values.collect::<Read<_>>()?,
+        values,
     })
 }
 
-impl Token<'_> {
+impl<'a> Token<'a> {
+    pub(super) fn new(kind: u8, place: usize, next: usize, held: Held<'a>) -> Self {
+        Token {
+            kind,
+            place,
+            next,
+            held,
+        }
+    }
+
     pub fn instance(&self) -> Option<&Instance> {
         match &self.held {
             Held::Instance(instance) => Some(instance),
@@ -258,6 +283,7 @@ impl Token<'_> {
             flag,
             announced,
             name,
+            level: 0,
         }
     }
 

@@ -7,7 +7,7 @@ use crate::oracle::chunk::State;
 use crate::oracle::differences::{self, Met};
 use crate::oracle::refusal::Refusal;
 use crate::oracle::tokens::{Asked, Row};
-use crate::oracle::{calls, chunk, file, owners, tokens};
+use crate::oracle::{calls, chunk, file, nests, owners, tokens};
 use std::io::{self, Read, Write};
 
 const HEAD: usize = 14;
@@ -50,7 +50,7 @@ impl Case {
             b'H' | b'E' | b'R' | b'W' | b'F' | b'T' | b'S' | b'O' => Some(0),
             b'P' => Some(STATE),
             b'C' => Some(ROOM),
-            b'B' => Some(ROOMS),
+            b'B' | b'N' => Some(ROOMS),
             b'K' => Some(KEPT),
             b'M' => Some(NUMBERS),
             _ => None,
@@ -77,7 +77,7 @@ impl Case {
         &self.data[self.front()..]
     }
 
-    /// The walk that the modes T, O, C, B and K begin with.
+    /// The walk that the modes T, O, C, B, K and N begin with.
     pub(crate) fn walk(&self) -> Asked {
         Asked {
             start: self.start as usize,
@@ -106,8 +106,8 @@ impl Case {
         self.word(0)
     }
 
-    /// How many words mode B lends.
-    fn rooms(&self) -> Rooms {
+    /// How many words the modes B and N lend.
+    pub(crate) fn rooms(&self) -> Rooms {
         Rooms {
             sheet: self.word(0),
             table: self.word(ROOM),
@@ -244,6 +244,11 @@ fn answer(case: &Case, out: &mut String) -> Met {
         b'O' | b'C' | b'B' | b'K' => {
             let (rows, met) = tokens::rows(data, case.walk());
             push_rows(case, rows, out);
+            met
+        }
+        b'N' => {
+            let (joined, met) = nests::read(data, case.walk());
+            calls::push_joined(joined, case.rooms(), out);
             met
         }
         // The printed Rust has no merge: the second reading answers for it.

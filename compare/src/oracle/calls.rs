@@ -41,7 +41,8 @@ impl Row {
 
     /// "The sheet becomes two words a token: the first as before with that bit in the first of the nine spare places, the
     /// second the name offset in 32 bits, then 32 zeros; tokens without a name have 0 there." As before: "most significant
-    /// first: kind 4 bits, place 17, length 17, number 16, flag 1, 9 zeros".
+    /// first: kind 4 bits, place 17, length 17, number 16, flag 1, 9 zeros". "Level 0 to 8 in the next four spare places" (document 02,
+    /// P9).
     pub(crate) fn words(&self) -> [u64; 2] {
         let first = [
             (u64::from(self.kind), 4),
@@ -50,7 +51,8 @@ impl Row {
             (u64::from(self.number), 16),
             (u64::from(self.flag), 1),
             (u64::from(self.announced), 1),
-            (0, 8),
+            (u64::from(self.level), 4),
+            (0, 4),
         ];
         let second = [(u64::from(self.name), 32), (0, 32)];
         [packed(first), packed(second)]
@@ -110,7 +112,8 @@ pub(crate) fn push_sheet(rows: Result<Vec<Row>, Refusal>, room: u32, out: &mut S
 }
 
 /// What the joined call makes of a stream: "one that fills both lent buffers" (document 02, P8).
-pub(crate) struct Joined {
+#[derive(Debug, PartialEq, Eq)]
+pub struct Joined {
     pub sheet: Vec<u64>,
     pub table: Vec<u32>,
 }

@@ -3,6 +3,7 @@
 //! The document decides. A case that meets none of these must have equal answers in both; one that
 //! meets a row may differ, from a line on that the row explains.
 
+use crate::oracle::nests::BODY;
 use crate::oracle::values::{STRING_ARRAY, read_table};
 use crate::utils::ByteCursor;
 use std::collections::BTreeSet;
@@ -35,7 +36,6 @@ pub type Met = BTreeSet<Difference>;
 const BINARY_ARRAY: u8 = 0x8e;
 const STRING: u8 = 0x01;
 const SID_ARRAY: u8 = 0x93;
-const BODY: u8 = 0x21;
 
 /// What the token at `place` meets, be it handed out or refused. `exact` says that each array of
 /// strings in it ended where its size says.
@@ -86,7 +86,7 @@ pub(super) fn held(mode: u8, document: &str, rust: &str, met: &Met) -> String {
     let differing = pairs.find(|(ours, theirs)| ours != theirs);
     let explains = |row: &&Difference| {
         differing.is_some_and(|(ours, theirs)| match mode {
-            b'O' | b'C' | b'B' | b'K' => row.explains_unlisted(ours, theirs),
+            b'O' | b'C' | b'B' | b'K' | b'N' => row.explains_unlisted(ours, theirs),
             _ => row.explains(ours, theirs),
         })
     };
@@ -117,7 +117,7 @@ impl Difference {
         }
     }
 
-    /// The same in the modes O, C, B and K, whose answers do not list the tokens: the token that meets the row has no line of its
+    /// The same in the modes O, C, B, K and N, whose answers do not list the tokens: the token that meets the row has no line of its
     /// own there, and what comes after it may decide.
     fn explains_unlisted(self, document: &str, rust: &str) -> bool {
         match self {

@@ -29,7 +29,7 @@ use crate::err::Result as EvtxResult;
 use crate::evtx_chunk::raw_walk;
 use crate::oracle::differences::{Met, of_token};
 use crate::oracle::refusal::Refusal;
-use crate::oracle::values::Fields;
+use crate::oracle::values::{Body, Fields};
 use crate::oracle::{CHUNK_SIZE, hex, kinds, values};
 use crate::utils::{ByteCursor, Utf16LeSlice};
 use crate::{Bump, ChunkOffset, EvtxChunk, WINDOWS_1252};
@@ -274,6 +274,8 @@ impl Placed<'_> {
 struct Walked<'a> {
     tokens: Vec<Placed<'a>>,
     end: Result<(), Refusal>,
+    /// Where the walk stood at its end, or what was refused begins, if it came to that.
+    last: Option<usize>,
     met: Met,
 }
 
@@ -284,6 +286,7 @@ fn walked<R>(data: &[u8], asked: Asked, then: impl FnOnce(Walked<'_>) -> R) -> R
         return then(Walked {
             tokens: Vec::new(),
             end: Err(Refusal::new(1, 0)),
+            last: None,
             met: Met::new(),
         });
     }
@@ -324,7 +327,13 @@ fn walked<R>(data: &[u8], asked: Asked, then: impl FnOnce(Walked<'_>) -> R) -> R
     if end.is_err() {
         of_token(data, last, false, &mut met);
     }
-    then(Walked { tokens, end, met })
+    let last = Some(last);
+    then(Walked {
+        tokens,
+        end,
+        last,
+        met,
+    })
 }
 
 /// What the sheet says of a token.
@@ -340,6 +349,8 @@ pub(crate) struct Row {
     pub(crate) announced: bool,
     /// The name's offset; 0 where there is no name.
     pub(crate) name: u32,
+    /// How many bodies it lies in, as document 02's request P9 counts them.
+    pub(crate) level: u8,
 }
 
 impl Row {
@@ -365,6 +376,7 @@ impl Row {
             flag,
             announced: placed.announced,
             name,
+            level: 0,
         }
     }
 }
@@ -374,6 +386,45 @@ pub(super) fn rows(data: &[u8], asked: Asked) -> (Result<Vec<Row>, Refusal>, Met
     walked(data, asked, |walked| {
         let rows = walked.tokens.iter().map(Row::of).collect();
         (walked.end.map(|()| rows), walked.met)
+    })
+}
+
+/// A token of a window, with the bodies in its values: where they start, and their sizes.
+pub(super) struct Windowed {
+    pub(super) place: usize,
+    /// `None` for what was refused, which comes last.
+    pub(super) row: Option<Row>,
+    /// Whether every array of strings ended where its size says.
+    pub(super) exact: bool,
+    pub(super) bodies: Vec<Body>,
+}
+
+/// A window's tokens, and where its walk ended or how it was refused.
+pub(super) struct Windows {
+    pub(super) tokens: Vec<Windowed>,
+    pub(super) end: Result<usize, Refusal>,
+}
+
+/// The walk over a window.
+pub(super) fn windowed(data: &[u8], asked: Asked) -> Windows {
+    walked(data, asked, |walked| {
+        let read = walked.tokens.into_iter().map(|placed| Windowed {
+            place: placed.place,
+            row: Some(Row::of(&placed)),
+            exact: placed.values.as_ref().is_none_or(|values| values.exact),
+            bodies: placed.values.map_or(Vec::new(), |values| values.bodies),
+        });
+        let mut tokens: Vec<Windowed> = read.collect();
+        let end = walked.end.map(|()| walked.last.unwrap_or(asked.start));
+        if let (Err(_), Some(place)) = (end, walked.last) {
+            tokens.push(Windowed {
+                place,
+                row: None,
+                exact: false,
+                bodies: values::bodies_before_refusal(data, place),
+            });
+        }
+        Windows { tokens, end }
     })
 }
 

@@ -3,14 +3,16 @@
 use crate::binxml::BinXmlTemplateValues;
 use crate::binxml::tokens::read_template_header;
 use crate::binxml::value_variant::{BinXmlValue, BinXmlValueType};
-use crate::err::DeserializationResult;
+use crate::err::{DeserializationError, DeserializationResult};
 use crate::oracle::hex;
+use crate::oracle::nests::BODY;
 use crate::utils::ByteCursor;
 use crate::utils::windows::SysTime;
 use crate::{Bump, WINDOWS_1252};
 
 pub(super) const STRING_ARRAY: u8 = 0x81;
 const BOOLEAN: u8 = 0x0d;
+const INSTANCE_TOKEN: u8 = 0x0c;
 
 /// One value of an instance, read a second time.
 struct Placed<'a> {
@@ -29,7 +31,12 @@ pub(super) struct Fields {
     pub(super) fields: Vec<String>,
     /// Whether every array of strings ended where its size says.
     pub(super) exact: bool,
+    /// Where each value of type 21 starts, and its size.
+    pub(super) bodies: Vec<Body>,
 }
+
+/// A value of type 21: where it starts, and its size.
+pub(super) type Body = (usize, usize);
 
 /// The values of the instance whose token stands at `place` and ends at `end`.
 ///
@@ -43,8 +50,9 @@ pub(super) fn of_instance(
     end: usize,
 ) -> Fields {
     let bump = Bump::new();
-    let again = read_again(data, place + 1, &bump);
-    let (placed, end_again) = again.expect("what was read once can be read again");
+    let mut placed = Vec::new();
+    let again = read_again(data, place + 1, &bump, &mut placed);
+    let end_again = again.expect("what was read once can be read again");
     assert_eq!((placed.len(), end_again), (instance.values.len(), end));
 
     let mut fields = Vec::with_capacity(placed.len());
@@ -61,7 +69,31 @@ pub(super) fn of_instance(
             exact &= raw.len() == usize::from(placed.size);
         }
     }
-    Fields { fields, exact }
+    let bodies = bodies(&placed);
+    Fields {
+        fields,
+        exact,
+        bodies,
+    }
+}
+
+fn bodies(values: &[Placed<'_>]) -> Vec<Body> {
+    let of_type = values.iter().filter(|value| value.code == BODY);
+    of_type
+        .map(|value| (value.start, value.size.into()))
+        .collect()
+}
+
+/// The values of type 21 that are read of the instance whose token stands at `place` before it is refused; none where it is its table
+/// that is refused, or it is no instance.
+pub(super) fn bodies_before_refusal(data: &[u8], place: usize) -> Vec<Body> {
+    let bump = Bump::new();
+    let mut placed = Vec::new();
+    if data.get(place) == Some(&INSTANCE_TOKEN) {
+        // Where it is refused is the walk's business.
+        let _ = read_again(data, place + 1, &bump, &mut placed);
+    }
+    bodies(&placed)
 }
 
 /// Reads the sizes and type codes of the instance whose body the cursor stands at. Where the
@@ -87,19 +119,32 @@ pub(super) fn read_table(
     Ok(())
 }
 
-/// The values of the instance whose body starts at `body`, and where it ends.
+/// Reads the values of the instance whose body starts at `body`, and says where it ends. Where a value is refused, `values` holds those
+/// before it.
 fn read_again<'a>(
     data: &'a [u8],
     body: usize,
     bump: &'a Bump,
-) -> DeserializationResult<(Vec<Placed<'a>>, usize)> {
+    values: &mut Vec<Placed<'a>>,
+) -> DeserializationResult<usize> {
     let mut cursor = ByteCursor::with_pos(data, body)?;
     let mut table = Vec::new();
     read_table(&mut cursor, &mut table)?;
-    let mut values = Vec::with_capacity(table.len());
-    for (size, code) in table {
+    let typed = table.into_iter().map(|(size, code)| {
+        let value_type = BinXmlValueType::from_u8(code);
+        let offset = body as u64;
+        let unknown = DeserializationError::InvalidValueVariant {
+            value: code,
+            offset,
+        };
+        value_type
+            .map(|value_type| (size, code, value_type))
+            .ok_or(unknown)
+    });
+    // The whole table comes before any value.
+    let typed: Vec<_> = typed.collect::<DeserializationResult<_>>()?;
+    for (size, code, value_type) in typed {
         let start = cursor.pos();
-        let value_type = BinXmlValueType::from_u8(code).expect("a code that was read once");
         let value = BinXmlValue::deserialize_value_type_cursor_in(
             &value_type,
             &mut cursor,
@@ -119,7 +164,7 @@ fn read_again<'a>(
             value,
         });
     }
-    Ok((values, cursor.pos()))
+    Ok(cursor.pos())
 }
 
 /// A value's content. The type code says how it is written, since the printed reader hands a

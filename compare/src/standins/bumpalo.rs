@@ -67,6 +67,10 @@ impl Bump {
         unsafe { std::str::from_utf8_unchecked(bytes) }
     }
 
+    pub fn alloc<T>(&self, item: T) -> &T {
+        &self.alloc_slice_fill_iter([item])[0]
+    }
+
     pub fn alloc_slice_fill_iter<T, I>(&self, items: I) -> &[T]
     where
         I: IntoIterator<Item = T>,
@@ -143,6 +147,8 @@ pub mod collections {
     //! Growing things that end up in an arena. They grow outside it and move in at the end.
 
     use super::Bump;
+    use std::fmt::{self, Debug, Formatter};
+    use std::ops::{Deref, DerefMut};
 
     pub struct Vec<'a, T> {
         items: std::vec::Vec<T>,
@@ -163,8 +169,76 @@ pub mod collections {
             self.items.push(item);
         }
 
+        pub fn pop(&mut self) -> Option<T> {
+            self.items.pop()
+        }
+
+        pub fn clear(&mut self) {
+            self.items.clear();
+        }
+
+        pub fn reserve(&mut self, more: usize) {
+            self.items.reserve(more);
+        }
+
         pub fn into_bump_slice(self) -> &'a [T] {
             self.arena.alloc_slice_fill_iter(self.items)
+        }
+    }
+
+    impl<T: Clone> Vec<'_, T> {
+        pub fn extend_from_slice(&mut self, items: &[T]) {
+            self.items.extend_from_slice(items);
+        }
+    }
+
+    impl<T: Clone> Clone for Vec<'_, T> {
+        fn clone(&self) -> Self {
+            Vec {
+                items: self.items.clone(),
+                arena: self.arena,
+            }
+        }
+    }
+
+    impl<T: Debug> Debug for Vec<'_, T> {
+        fn fmt(&self, f: &mut Formatter<'_>) -> fmt::Result {
+            self.items.fmt(f)
+        }
+    }
+
+    impl<T: PartialEq> PartialEq for Vec<'_, T> {
+        fn eq(&self, other: &Self) -> bool {
+            self.items == other.items
+        }
+    }
+
+    impl<T> Deref for Vec<'_, T> {
+        type Target = [T];
+        fn deref(&self) -> &[T] {
+            &self.items
+        }
+    }
+
+    impl<T> DerefMut for Vec<'_, T> {
+        fn deref_mut(&mut self) -> &mut [T] {
+            &mut self.items
+        }
+    }
+
+    impl<'v, T> IntoIterator for &'v Vec<'_, T> {
+        type Item = &'v T;
+        type IntoIter = std::slice::Iter<'v, T>;
+        fn into_iter(self) -> Self::IntoIter {
+            self.items.iter()
+        }
+    }
+
+    impl<T> IntoIterator for Vec<'_, T> {
+        type Item = T;
+        type IntoIter = std::vec::IntoIter<T>;
+        fn into_iter(self) -> Self::IntoIter {
+            self.items.into_iter()
         }
     }
 

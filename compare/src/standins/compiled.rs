@@ -5,7 +5,7 @@ use crate::binxml::ir::{IrTemplateCache, RecordContent, TemplateContent};
 use crate::binxml::value_render::ValueRenderer;
 use crate::err::{EvtxError, Result};
 use crate::evtx_chunk::EvtxChunk;
-use crate::model::ir::IrTree;
+use crate::model::ir::{Element, IrArena, IrTree};
 use std::marker::PhantomData;
 
 const LEFT_OUT: EvtxError = EvtxError::FailedToCreateRecordModel("rendering is left out");
@@ -18,6 +18,19 @@ pub struct ProgramStore;
 
 #[derive(Debug, Default)]
 pub struct Budget;
+
+impl Budget {
+    pub fn build(&self, _nodes: usize) -> Result<()> {
+        Ok(())
+    }
+}
+
+/// Substitutions of a template up to which the printed code keeps a note of those that it has seen; only rendering asks.
+pub const MAX_SUBSTITUTIONS: usize = 1024;
+
+pub fn data_names_may_repeat(_: &IrArena<'_>, _: &Element<'_>) -> bool {
+    false
+}
 
 #[derive(Debug, Default)]
 pub struct ChunkBudget;

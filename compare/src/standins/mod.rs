@@ -13,6 +13,5 @@ pub mod guid;
 pub mod jiff;
 pub mod log;
 pub mod memchr;
-pub mod model;
 pub mod mta;
 pub mod serde_json;

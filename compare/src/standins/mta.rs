@@ -1,9 +1,9 @@
 //! Localized texts beside a log: left out of the port.
 
 use super::bumpalo::Bump;
-use super::model::ir::IrTree;
+use crate::model::ir::IrTree;
 
 #[derive(Debug)]
 pub struct MtaFile;
 
-pub fn add_rendering_info(_: &mut IrTree<'_>, _: u64, _: &MtaFile, _: &Bump) {}
+pub(crate) fn add_rendering_info(_: &mut IrTree<'_>, _: u64, _: &MtaFile, _: &Bump) {}

@@ -143,6 +143,7 @@ fn least_data(mode: u8) -> usize {
         b'O' => 0,
         b'C' => stream_answers::ROOM,
         b'B' => stream_answers::ROOMS,
+        b'N' => stream_answers::ROOMS,
         b'K' => stream_answers::KEPT,
         b'M' => merge_answers::FRONT,
         _ => MOST_DATA + 1,
@@ -183,6 +184,7 @@ fn on_stream(out: &mut [u8], at: usize, case: Case, bytes: &[u8]) -> usize {
         b'T' => stream_answers::walk(out, at, bytes, asked),
         b'O' => stream_answers::owners(out, at, bytes, asked),
         b'B' => stream_answers::body_call(out, at, bytes, asked),
+        b'N' => stream_answers::bodies_call(out, at, bytes, asked),
         b'K' => stream_answers::kept_call(out, at, bytes, asked, case.flags / 4 % 2 == 1),
         _ => stream_answers::sheet_alone(out, at, bytes, asked),
     }

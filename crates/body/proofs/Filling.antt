@@ -32,7 +32,7 @@ module _ (t : List ℕ) where
     unfolding walk
     whole-refused p k h = sym (ap (λ (x : Out × List ℕ). x .0) (ap (λ (r : Read). wholeOf r left) (sym h) ∙ e))
 
-    whole-table : left ≡ sets table 0 words
+    pub whole-table : left ≡ sets table 0 words
     unfolding walk
     whole-table = left-is r left (outcome true deepest begin 0 t) (sets table 0 words) e
 

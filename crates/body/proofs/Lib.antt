@@ -9,3 +9,4 @@ pub mod Answers
 pub mod Samples
 pub mod Walking
 pub mod Filling
+pub mod Marks

@@ -105,7 +105,7 @@ not-both t o r (disagreeing i x) = goes-on t i (disagrees-stops t i x) (itself n
 not-both t o r (unfinished-body x) = x .none 64 o r
 
 -- the grammar has one verdict on tokens, and a walk has one
-one-verdict : (t : List ℕ) {u v : Result (List ℕ)} → Verdict t u → Verdict t v → u ≡ v
+pub one-verdict : (t : List ℕ) {u v : Result (List ℕ)} → Verdict t u → Verdict t v → u ≡ v
 one-verdict t (a-body o x) (a-body p y) = ap gives (one-table narrow narrow 64 64 t o p x y)
 one-verdict t (a-body o x) (refused k p y) = absurd (not-both t o x y)
 one-verdict t (refused k p x) (a-body o y) = absurd (not-both t o y x)

@@ -2,3 +2,4 @@
 pub mod Grammar
 pub mod Verdict
 pub mod Reader
+pub mod Marks

@@ -108,7 +108,8 @@ pub extern "C" fn doortumble_file_header(file: &[u8], words: &mut [u64]) -> u64
     packed(log_file::lay_file_header(file, words))
 }
 
-fn flags(dependencies: u32, inline: u32) -> Flags
+// The flags of a call: 0 or not 0.
+pub fn flags(dependencies: u32, inline: u32) -> Flags
     ensures { λ r. ⌜ r ≡ flagsOf dependencies inline ⌝ }
 {
     Flags {
@@ -118,7 +119,7 @@ fn flags(dependencies: u32, inline: u32) -> Flags
 }
 
 // The answer word: each field in its own bits.
-fn packed(c: Counted) -> u64
+pub fn packed(c: Counted) -> u64
     ensures { λ r. ⌜ r ≡ packedOf (countAnswer c) ⌝ }
 {
     match c {

@@ -43,3 +43,16 @@ pub mod Words
 pub mod Sound
 pub mod Merging
 pub mod OfMerge
+pub mod NestOne
+pub mod NestTurns
+pub mod NestRise
+pub mod NestWalk
+pub mod NestOwners
+pub mod NestPlain
+pub mod NestNothing
+pub mod NestSound
+pub mod NestComplete
+pub mod NestEach
+pub mod NestRoom
+pub mod OfNest
+pub mod NestSamples

@@ -13,7 +13,8 @@ use Rattle.doortumble.specs.Calls.{packedOf}
 use Rattle.print.proofs.One.{puts-one, some-one}
 use Rattle.chunk_answers.proofs.One.{record-one, walk-one, step-text-one}
 use Rattle.stream_answers.specs.Modes.{OwnersSaid, ownersText, answerText}
-use Rattle.stream_answers.specs.Body.{BodyCalled, bothText}
+use Rattle.stream_answers.specs.Body.{bodyStream, lentBoth, BodyCalled, BodiesCalled, bothText}
+use Rattle.stream_answers.specs.declared.Asked.{Asked}
 use Rattle.listing_text.proofs.One.{listed-one}
 use Rattle.file_text.proofs.One.{file-listing-one, file-answers-one}
 use Rattle.chunk_answers.proofs.header.Kinds as headerK
@@ -40,6 +41,8 @@ use Rattle.stream_answers.proofs.kept_front.Kinds as kept-frontK
 use Rattle.stream_answers.proofs.kept_front.Reads as kept-frontR
 use Rattle.stream_answers.proofs.body_call.Kinds as body-callK
 use Rattle.stream_answers.proofs.body_call.Reads as body-callR
+use Rattle.stream_answers.proofs.bodies_call.Kinds as bodies-callK
+use Rattle.stream_answers.proofs.bodies_call.Reads as bodies-callR
 use Rattle.listing_text.proofs.put.Kinds as listingK
 use Rattle.listing_text.proofs.put.Reads as listingR
 use Rattle.listing_text.proofs.refused.Kinds as refused-listingK
@@ -48,6 +51,7 @@ use Rattle.file_text.proofs.listing.Kinds as file-listingK
 use Rattle.file_text.proofs.listing.Reads as file-listingR
 use Rattle.file_text.proofs.answers.Kinds as file-answersK
 use Rattle.file_text.proofs.answers.Reads as file-answersR
+use Rattle.promises.proofs.NestOne.{one-nested}
 use Rattle.promises.proofs.One.{Single}
 
 -- the owner table's text, and the text of the call for sheet and owner table: the tokens have one answer and leave one sheet and one table
@@ -59,6 +63,13 @@ said-one w t u p q =
 called-one : (w : Walked) (lent : Both) (t u : List ℕ) → BodyCalled w lent t → BodyCalled w lent u → t ≡ u
 called-one w lent t u p q =
     let e = one-answer _ _ _ (p .packed .1 .1) (q .packed .1 .1) in
+    let word : p .word ≡ q .word = p .packed .1 .0 ∙ ap packedOf (e .0) ∙ sym (q .packed .1 .0) in
+    p .is ∙ ap (λ (n : ℕ). answerText n ++ bothText (p .left)) word ∙ ap (λ (b : Both). answerText (q .word) ++ bothText b) (e .1) ∙ sym (q .is)
+
+bodies-called-one : (s : List ℕ) (asked : Asked) (lent : Both) (t u : List ℕ) → BodiesCalled s asked lent t → BodiesCalled s asked lent u → t ≡ u
+bodies-called-one s asked lent t u p q =
+    let f = asked .flags in
+    let e = one-nested s (asked .start) (asked .length) f lent (p .left) (q .left) (p .packed .0) (q .packed .0) (p .packed .1 .1) (q .packed .1 .1) in
     let word : p .word ≡ q .word = p .packed .1 .0 ∙ ap packedOf (e .0) ∙ sym (q .packed .1 .0) in
     p .is ∙ ap (λ (n : ℕ). answerText n ++ bothText (p .left)) word ∙ ap (λ (b : Both). answerText (q .word) ++ bothText b) (e .1) ∙ sym (q .is)
 
@@ -108,6 +119,10 @@ kept-front κs a x y s t p q = p ∙ sym q
 pub body-call : (κs : Lfts 2) (a : Dens κs body-callK.ps) (x y : resT body-callK.r κs .Denot) (s t : AtExit (endedOf 2 body-callK.ps body-callK.r) κs)
     → body-callR.Post κs a x s → body-callR.Post κs a y t → (s .0 .now ≡ t .0 .now) × (x ≡ y)
 body-call κs a x y s t p q = some-one _ _ _ _ _ _ _ (λ t u. called-one _ _ t u) p q
+
+pub bodies-call : (κs : Lfts 2) (a : Dens κs bodies-callK.ps) (x y : resT bodies-callK.r κs .Denot) (s t : AtExit (endedOf 2 bodies-callK.ps bodies-callK.r) κs)
+    → bodies-callR.Post κs a x s → bodies-callR.Post κs a y t → (s .0 .now ≡ t .0 .now) × (x ≡ y)
+bodies-call κs a x y s t p q = some-one _ _ _ _ _ _ _ (λ t u. bodies-called-one (bodyStream (a .1 .1 .0 .now)) (a .1 .1 .1 .0) (lentBoth (a .1 .1 .0 .now)) t u) p q
 
 pub listing : (κs : Lfts 2) (a : Dens κs listingK.ps) (x y : resT listingK.r κs .Denot) (s t : AtExit (endedOf 2 listingK.ps listingK.r) κs)
     → listingR.Post κs a x s → listingR.Post κs a y t → (s .0 .now ≡ t .0 .now) × (x ≡ y)

@@ -5,11 +5,17 @@ use borrow.Fn.Kinds.{Dens, resT, endedOf}
 use denote.Triple.Clauses.{AtExit}
 use Rattle.record.specs.Chunk.{fieldsAt}
 use Rattle.log_file.specs.Header.{fileAt}
-use Rattle.body.specs.Verdict.{Both}
+use Rattle.body.specs.Verdict.{Both, both}
 use Rattle.body.proofs.One.{one-answer}
-use Rattle.doortumble.specs.Calls.{packedOf}
+use Rattle.doortumble.specs.Calls.{packedOf, flagsOf}
 use Rattle.doortumble.proofs.doortumble_body.Kinds as bodyK
 use Rattle.doortumble.proofs.doortumble_body.Reads as bodyR
+use Rattle.doortumble.proofs.flags.Kinds as flagsK
+use Rattle.doortumble.proofs.flags.Reads as flagsR
+use Rattle.doortumble.proofs.packed.Kinds as packedK
+use Rattle.doortumble.proofs.packed.Reads as packedR
+use Rattle.nest_call.proofs.doortumble_bodies.Kinds as bodiesK
+use Rattle.nest_call.proofs.doortumble_bodies.Reads as bodiesR
 use Rattle.doortumble.proofs.doortumble_widen.Kinds as widenK
 use Rattle.doortumble.proofs.doortumble_widen.Reads as widenR
 use Rattle.doortumble.proofs.doortumble_narrow.Kinds as narrowK
@@ -26,6 +32,7 @@ use Rattle.checksum_call.proofs.doortumble_bench_checksum.Kinds as checksumK
 use Rattle.checksum_call.proofs.doortumble_bench_checksum.Reads as checksumR
 use Rattle.sheet_call.proofs.doortumble_bench_sheet.Kinds as sheetK
 use Rattle.sheet_call.proofs.doortumble_bench_sheet.Reads as sheetR
+use Rattle.promises.proofs.NestOne.{one-nested}
 use Rattle.promises.proofs.OfChunk.{lists-by}
 use Rattle.promises.proofs.OfLogFile.{file-lists-by}
 use Rattle.promises.proofs.One.{Single}
@@ -35,6 +42,23 @@ pub body : (κs : Lfts 3) (a : Dens κs bodyK.ps) (x y : resT bodyK.r κs .Denot
     → (x ≡ y) × (s .1 .1 .1 .1 .1 .0 .now ≡ t .1 .1 .1 .1 .1 .0 .now) × (s .1 .1 .1 .1 .1 .1 .0 .now ≡ t .1 .1 .1 .1 .1 .1 .0 .now)
 body κs a x y s t p q =
     let e = one-answer _ _ _ (p .1 .1) (q .1 .1) in
+    (p .1 .0 ∙ ap packedOf (e .0) ∙ sym (q .1 .0), ap (λ (b : Both). b .sheet) (e .1), ap (λ (b : Both). b .table) (e .1))
+
+pub flags : Single 0 flagsK.ps flagsK.r flagsR.Post
+flags κs a x y s t p q = p ∙ sym q
+
+pub packed : Single 0 packedK.ps packedK.r packedR.Post
+packed κs a x y s t p q = p ∙ sym q
+
+pub bodies : (κs : Lfts 3) (a : Dens κs bodiesK.ps) (x y : resT bodiesK.r κs .Denot) (s t : AtExit (endedOf 3 bodiesK.ps bodiesK.r) κs)
+    → bodiesR.Post κs a x s → bodiesR.Post κs a y t
+    → (x ≡ y) × (s .1 .1 .1 .1 .1 .0 .now ≡ t .1 .1 .1 .1 .1 .0 .now) × (s .1 .1 .1 .1 .1 .1 .0 .now ≡ t .1 .1 .1 .1 .1 .1 .0 .now)
+bodies κs a x y s t p q =
+    let f = flagsOf (a .1 .1 .1 .0) (a .1 .1 .1 .1 .0) in
+    let lent = both (a .1 .1 .1 .1 .1 .0 .now) (a .1 .1 .1 .1 .1 .1 .0 .now) in
+    let left = both (s .1 .1 .1 .1 .1 .0 .now) (s .1 .1 .1 .1 .1 .1 .0 .now) in
+    let left′ = both (t .1 .1 .1 .1 .1 .0 .now) (t .1 .1 .1 .1 .1 .1 .0 .now) in
+    let e = one-nested (a .0 .now) (a .1 .0) (a .1 .1 .0) f lent left left′ (p .0) (q .0) (p .1 .1) (q .1 .1) in
     (p .1 .0 ∙ ap packedOf (e .0) ∙ sym (q .1 .0), ap (λ (b : Both). b .sheet) (e .1), ap (λ (b : Both). b .table) (e .1))
 
 pub widen : (κs : Lfts 3) (a : Dens κs widenK.ps) (x y : resT widenK.r κs .Denot) (s t : AtExit (endedOf 3 widenK.ps widenK.r) κs)

@@ -15,6 +15,12 @@ use Rattle.sheet.proofs.note.Kinds as noteK
 use Rattle.sheet.proofs.note.Reads as noteR
 use Rattle.sheet.proofs.note_beside.Kinds as noteBesideK
 use Rattle.sheet.proofs.note_beside.Reads as noteBesideR
+use Rattle.sheet.proofs.mark.Kinds as markK
+use Rattle.sheet.proofs.mark.Reads as markR
+use Rattle.sheet.proofs.first_word.Kinds as firstK
+use Rattle.sheet.proofs.first_word.Reads as firstR
+use Rattle.sheet.proofs.second_word.Kinds as secondK
+use Rattle.sheet.proofs.second_word.Reads as secondR
 use Rattle.sheet.proofs.without_bit.Kinds as withoutBitK
 use Rattle.sheet.proofs.without_bit.Reads as withoutBitR
 use Rattle.promises.proofs.One.{Single, counted-one}
@@ -24,6 +30,15 @@ count κs a x y s t p q = counted-one x y _ p q
 
 pub count-beside : Single 2 countBesideK.ps countBesideK.r countBesideR.Post
 count-beside κs a x y s t p q = counted-one x y _ p q
+
+pub mark : Single 0 markK.ps markK.r markR.Post
+mark κs a x y s t p q = p ∙ sym q
+
+pub first-word : Single 0 firstK.ps firstK.r firstR.Post
+first-word κs a x y s t p q = p ∙ sym q
+
+pub second-word : Single 0 secondK.ps secondK.r secondR.Post
+second-word κs a x y s t p q = p ∙ sym q
 
 pub without-bit : Single 0 withoutBitK.ps withoutBitK.r withoutBitR.Post
 without-bit κs a x y s t p q = p ∙ sym q

@@ -5,7 +5,10 @@ use Prim.Native.Nat.{ℕ}
 use Rattle.cursor.specs.Answer.{Answer, given, refused, Result, gives, refuses, Maybe, just, nothing}
 use Rattle.tokens.specs.Instance.{ValueNext, nextAnswer}
 use Rattle.tokens.specs.Single.{singleAnswer, endsAnswer}
+use Rattle.tokens.specs.Sight.{Seen, begun, met, sightAnswer}
 use Rattle.tokens.specs.Walk.{Met, handed, header, over, stepAnswer, windowAnswer}
+use Rattle.tokens.specs.declared.Sight.{Sight}
+use Rattle.tokens.specs.declared.Sight.the-variants as G
 use Rattle.tokens.specs.declared.Stepped.{Stepped}
 use Rattle.tokens.specs.declared.Stepped.the-variants as S
 use Rattle.tokens.specs.declared.NextValue.{NextValue}
@@ -18,6 +21,8 @@ use Rattle.tokens.specs.declared.Window.{Window}
 use Rattle.tokens.specs.declared.Window.the-variants as W
 use Rattle.tokens.proofs.step.Kinds as stepK
 use Rattle.tokens.proofs.step.Reads as stepR
+use Rattle.tokens.proofs.look.Kinds as lookK
+use Rattle.tokens.proofs.look.Reads as lookR
 use Rattle.tokens.proofs.window_of.Kinds as windowK
 use Rattle.tokens.proofs.window_of.Reads as windowR
 use Rattle.tokens.proofs.Values.of.Kinds as ofK
@@ -47,6 +52,23 @@ step-one = read-back stepAnswer stepBack back
 
 pub step : Single 1 stepK.ps stepK.r stepR.Post
 step κs a x y s t p q = step-one x y _ p q
+
+abbrev sightBack : Answer Seen → Sight
+sightBack (given (begun i) n) = G.Instance i (record { at = n })
+sightBack (given (met (handed t)) n) = G.Token t (record { at = n })
+sightBack (given (met header) n) = G.Header (record { at = n })
+sightBack (given (met over) n) = G.Over (record { at = n })
+sightBack (refused k p) = G.Refused (record { number = k; place = p })
+
+pub look : Single 1 lookK.ps lookK.r lookR.Post
+look κs a x y s t p q = read-back sightAnswer sightBack back x y _ p q
+  where
+    back : (x : Sight) → sightBack (sightAnswer x) ≡ x
+    back (G.Token t c) = refl
+    back (G.Instance i c) = refl
+    back (G.Header c) = refl
+    back (G.Over c) = refl
+    back (G.Refused r) = refl
 
 abbrev windowBack : Result (ℕ × ℕ) → Window
 windowBack (gives (start, end)) = W.From start end

@@ -12,3 +12,6 @@ pub mod Told
 pub mod Kept
 pub mod Sound
 pub mod Merging
+pub mod Nests
+pub mod NestWindows
+pub mod NestSamples

@@ -20,7 +20,7 @@ ghost use Rattle.tokens.specs.Single.{singleAnswer, endsAnswer};
 ghost use Rattle.print.specs.Text.{ascii, Puts, PutsSome, lineOf};
 ghost use Rattle.stream_answers.specs.Walk.{walkText};
 ghost use Rattle.stream_answers.specs.Modes.{askedWalk, singleText, endsText, singleLines, OwnersSaid, sheetText, lentWords, streamOf};
-ghost use Rattle.stream_answers.specs.Body.{lentBoth, bodyStream, BodyCalled};
+ghost use Rattle.stream_answers.specs.Body.{lentBoth, bodyStream, BodyCalled, BodiesCalled};
 ghost use Rattle.stream_answers.specs.Kept.{givenWords, keptStream, keptText};
 
 // What of a stream is asked for, and how it is read.
@@ -123,6 +123,15 @@ pub fn body_call(out: &mut [u8], at: usize, bytes: &[u8], asked: Asked) -> usize
     let mut sheet = [0xFFFF_FFFF_FFFF_FFFFu64; MOST];
     let mut table = [0xFFFF_FFFFu32; MOST];
     joined::body_of(out, at, bytes, asked, &mut sheet, &mut table)
+}
+
+// Mode N: the same for the call that goes into the bodies in values.
+pub fn bodies_call(out: &mut [u8], at: usize, bytes: &[u8], asked: Asked) -> usize
+    ensures { λ r. ⌜ PutsSome (BodiesCalled (bodyStream (now (bytes .entry))) asked (lentBoth (now (bytes .entry)))) (now (out .entry)) at (now (out .exit)) r ⌝ }
+{
+    let mut sheet = [0xFFFF_FFFF_FFFF_FFFFu64; MOST];
+    let mut table = [0xFFFF_FFFFu32; MOST];
+    joined::bodies_of(out, at, bytes, asked, &mut sheet, &mut table)
 }
 
 // Mode K: what the calls on a kept sheet answer on lent words, and what they leave there.

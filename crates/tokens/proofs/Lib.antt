@@ -5,3 +5,4 @@ pub mod Table
 pub mod Kinded
 pub mod Reach
 pub mod Steps
+pub mod Sights

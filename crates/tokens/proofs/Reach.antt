@@ -160,7 +160,7 @@ module _ (s : List ℕ) where
       (λ w. tt {0})))))
       (λ e. (omega arith, h))
 
-  head : (at : ℕ) → Between at (length s) (I.instanceHeadAt s at)
+  pub head : (at : ℕ) → Between at (length s) (I.instanceHeadAt s at)
   head at =
       then-number at 1 _ (λ x n h.
       then-number n 4 _ (λ id m k.

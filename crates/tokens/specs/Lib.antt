@@ -1,6 +1,7 @@
--- The definitions that the contracts of `tokens` cite. In document 01's order: Walk, Single, Table, Token, Instance. Pieces only private
--- functions cite.
+-- The definitions that the contracts of `tokens` cite. In document 01's order: Walk, Single, Table, Token, Instance; Sight is
+-- document 02's. Pieces only private functions cite.
 pub mod Walk
+pub mod Sight
 pub mod Single
 pub mod Table
 pub mod Token

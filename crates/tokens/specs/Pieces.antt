@@ -15,6 +15,7 @@ use Rattle.name.specs.declared.Name.{Name}
 use Rattle.tokens.specs.Token.{instanceKind, openKind, closeStartKind, closeEmptyKind, closeElementKind, piDataKind, cdataKind, substitutionKind, gist, namedGist, bareAt, charRefAt, typeAt, substitutionAt, textTokenAt, valueTokenAt}
 use Rattle.tokens.specs.Instance.{definitionAt, tableAt, valuesAt, instanceAt}
 use Rattle.tokens.specs.Table.{gistAt}
+use Rattle.tokens.specs.Sight.{Seen, begun, met}
 use Rattle.tokens.specs.Walk.{Met, handed, header, over, tokenOf, headerAt}
 use Rattle.tokens.specs.declared.Flags.{Flags}
 use Rattle.tokens.specs.declared.Held.the-variants as H
@@ -44,6 +45,13 @@ turnAnswer (T.Token t c) = given (handed t) (c .at)
 turnAnswer (T.Header c) = given header (c .at)
 turnAnswer (T.Over c) = given over (c .at)
 turnAnswer (T.Refused r) = refusal r
+
+-- a turn that leaves an instance's values: after the head, and after a turn
+abbrev pub sightOfHead : Answer Instance → Answer Seen
+sightOfHead a = a then λ i next. given (begun i) next
+
+abbrev pub sightOfTurn : Answer Met → Answer Seen
+sightOfTurn a = a then λ m next. given (met m) next
 
 -- The token table in two parts: the tokens with a name, and the others. What is known of a token before its name
 abbrev pub lead : ℕ → ℕ → Bool → Bool → Lead

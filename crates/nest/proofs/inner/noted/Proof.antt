@@ -1,0 +1,14 @@
+-- `noted` meets its contract. Assumes nothing.
+
+use borrow.Author.Needs.{needs}
+use Rattle.nest.proofs.inner.noted.Statement.{statement}
+use Rattle.nest.proofs.inner.noted.Tie as tie
+
+returns : tie.Need-returns
+returns c = simp (c .if1 .taken)
+
+returns-2 : tie.Need-returns-2
+returns-2 c = simp (c .if1 .left)
+
+pub noted-spec : {M : Type 1} → statement M
+noted-spec = tie.close (tie.spec returns returns-2)

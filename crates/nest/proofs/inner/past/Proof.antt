@@ -1,0 +1,14 @@
+-- `past` meets its contract. Assumes nothing.
+
+use borrow.Author.Needs.{needs}
+use Rattle.nest.proofs.inner.past.Statement.{statement}
+use Rattle.nest.proofs.inner.past.Tie as tie
+
+returns : tie.Need-returns
+returns c = simp (c .if1 .taken)
+
+returns-2 : tie.Need-returns-2
+returns-2 c = simp (c .if1 .left)
+
+pub past-spec : {M : Type 1} → statement M
+past-spec = tie.close (tie.spec returns returns-2)

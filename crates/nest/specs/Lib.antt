@@ -1,0 +1,3 @@
+-- The definitions that the contracts of `nest` cite. Pieces only private functions cite.
+pub mod Nested
+pub mod Pieces

@@ -1,0 +1,400 @@
+// The walk of one window, which calls itself for the body in a value with the remaining levels falling.
+//
+// Two stacks hold what the grammar reads of a body's own tokens, and their numbers: an inner body is pushed, judged and popped, so that each
+// body's own tokens stand together.
+use cursor::Counted;
+use cursor::Refusal;
+use tokens::Flags;
+use tokens::Held;
+use tokens::NextValue;
+use tokens::Sight;
+use tokens::Token;
+use tokens::Values;
+use value::Kind;
+ghost use mathlib.Core.Path.{_≡_};
+ghost use mathlib.Core.Bool.{Bool, true, false, _&&_};
+ghost use mathlib.Core.List.{_∷_, [], map};
+ghost use Prim.Native.Nat.{_+_, _-_, _*_, _≤_, _<_};
+ghost use lib.Dec.{ltb};
+ghost use lib.ListN.{length, getD, take, set};
+ghost use lib.Seq.{sets};
+ghost use Rattle.cursor.specs.Answer.{refuses, pick};
+ghost use Rattle.cursor.specs.Answers.{countAnswer};
+ghost use Rattle.sheet.specs.Sheet.{markOf};
+ghost use Rattle.tokens.specs.Instance.{nextOf};
+ghost use Rattle.tokens.specs.Sight.{sightAt};
+ghost use Rattle.body.specs.Reader.{verdictOn};
+ghost use Rattle.nest.specs.Nested.{pastValue, deepestBody, innerFlags, wordsAt, renumbered};
+ghost use Rattle.nest.specs.Pieces.{full, instanceToken, tokenEvent, seenEvent, heldEvent, valueEvent, eventAt, setAt, numbersTo, verdictAnswer, verdictTable, Numbered, WalkRead, windowBy};
+
+// Not a refusal of document 01: the stacks are full.
+pub const FULL: u8 = 0;
+
+// Refusals of document 02.
+const NINTH_LEVEL: u8 = 21;
+
+const PAST_VALUE: u8 = 29;
+
+// Where a walk stands: between tokens, or among the values of the instance at a place.
+pub enum Place {
+    Between(usize),
+    Inside(usize, Values),
+}
+
+// What a walk meets next, and where it stands then.
+pub enum Event {
+    // A token, or an instance's token so far, as long as its head.
+    Token(Token, Place),
+    // A body, where its value starts, and its size.
+    Body(usize, usize, Place),
+    // An instance's token, all its values having been read.
+    Ended(Token, Place),
+    Moved(Place),
+    Over(usize),
+    Refused(Refusal),
+}
+
+// The walk of a window: its tokens' words, those of the bodies in its values after their instance, and the owners of each, from number `first`
+// on, where there is room. It answers how many tokens have been numbered.
+pub(crate) fn walk(
+    s: &[u8],
+    start: usize,
+    end: usize,
+    inside: bool,
+    flags: Flags,
+    left: u64,
+    first: usize,
+    marks: &mut [u8],
+    numbers: &mut [u32],
+    words: &mut [u32],
+    sheet: &mut [u64],
+    table: &mut [u32],
+) -> Counted
+    requires { ⌜ (left ≤ deepestBody) × (first ≤ start) × (start ≤ length (now s)) × (length (now s) ≤ 65536) ⌝ }
+    requires { ⌜ (length (now marks) ≡ length (now numbers)) × (length (now marks) ≤ length (now words)) ⌝ }
+    ensures { λ r. ⌜ WalkRead (now (s .entry)) (length (now (marks .entry))) (windowBy (now (s .entry)) left inside flags first start end) first inside end (now (sheet .entry)) (now (sheet .exit)) (now (table .entry)) (now (table .exit)) (countAnswer r) ⌝ }
+{
+    let mut place = Place::Between(start);
+    let mut n = first;
+    let mut own = first;
+    let mut k: usize = 0;
+    loop {
+        match next(s, end, flags, left, k < marks.len(), place) {
+            Event::Token(t, to) => {
+                note(marks, numbers, sheet, k, n, left, t);
+                own = n;
+                n += 1;
+                k += 1;
+                place = to;
+            }
+            Event::Body(at, size, to) => {
+                match walk(
+                    s,
+                    at,
+                    at + size,
+                    true,
+                    without_dependencies(flags),
+                    left - 1,
+                    n,
+                    &mut marks[k..],
+                    &mut numbers[k..],
+                    words,
+                    sheet,
+                    table,
+                ) {
+                    Counted::Count(m) => {
+                        n = m;
+                        place = to;
+                    }
+                    Counted::Refused(r) => return Counted::Refused(r),
+                }
+            }
+            Event::Ended(t, to) => {
+                put_words(sheet, own, left, t);
+                place = to;
+            }
+            Event::Moved(to) => place = to,
+            Event::Over(last) => return closed(
+                start,
+                end,
+                inside,
+                last,
+                k,
+                n,
+                marks,
+                numbers,
+                words,
+                table,
+            ),
+            Event::Refused(r) => return Counted::Refused(r),
+        }
+    }
+}
+
+fn without_dependencies(flags: Flags) -> Flags
+    ensures { λ r. ⌜ r ≡ innerFlags (flags .inline) ⌝ }
+{
+    Flags {
+        dependencies: false,
+        inline: flags.inline,
+    }
+}
+
+// What the walk meets next; a token needs a place on the stacks.
+fn next(s: &[u8], end: usize, flags: Flags, left: u64, room: bool, place: Place) -> Event
+    ensures { λ r. ⌜ r ≡ eventAt (now (s .entry)) end flags left room place ⌝ }
+{
+    match place {
+        Place::Between(at) => between(s, at, end, flags, room),
+        Place::Inside(at, values) => among(s, at, values, left),
+    }
+}
+
+fn between(s: &[u8], at: usize, end: usize, flags: Flags, room: bool) -> Event
+    ensures { λ r. ⌜ r ≡ seenEvent room at (sightAt (now (s .entry)) end flags at) ⌝ }
+{
+    match tokens::look(s, at, end, flags) {
+        Sight::Token(t, c) => noted(t, Place::Between(c.at), room),
+        Sight::Instance(i, c) => noted(
+            instance_token(at, c.at),
+            Place::Inside(at, Values::of(i)),
+            room,
+        ),
+        Sight::Header(c) => Event::Moved(Place::Between(c.at)),
+        Sight::Over(c) => Event::Over(c.at),
+        Sight::Refused(r) => Event::Refused(r),
+    }
+}
+
+fn noted(t: Token, to: Place, room: bool) -> Event
+    ensures { λ r. ⌜ r ≡ tokenEvent room t to ⌝ }
+{
+    if room {
+        return Event::Token(t, to);
+    }
+    Event::Refused(Refusal {
+        number: FULL,
+        place: 0,
+    })
+}
+
+// The next value of the instance at `at`.
+fn among(s: &[u8], at: usize, values: Values, left: u64) -> Event
+    ensures { λ r. ⌜ r ≡ valueEvent left at values (nextOf (now (s .entry)) values) ⌝ }
+{
+    match values.next(s) {
+        NextValue::Value(v, size, rest) => held(
+            v.code,
+            v.start,
+            size,
+            Place::Inside(at, rest),
+            left,
+        ),
+        NextValue::Done => Event::Ended(instance_token(at, values.at), Place::Between(values.at)),
+        NextValue::Refused(r) => Event::Refused(r),
+    }
+}
+
+// A value that was read: one of type 21 holds a body, where a level is left for it.
+fn held(code: u8, start: usize, size: u16, to: Place, left: u64) -> Event
+    ensures { λ r. ⌜ r ≡ heldEvent left code start size to ⌝ }
+{
+    if code != Kind::BIN_XML {
+        return Event::Moved(to);
+    }
+    if left == 0 {
+        return Event::Refused(Refusal {
+            number: NINTH_LEVEL,
+            place: start,
+        });
+    }
+    Event::Body(start, size as usize, to)
+}
+
+// An instance's token, from its place to `next`.
+fn instance_token(place: usize, next: usize) -> Token
+    ensures { λ r. ⌜ r ≡ instanceToken place next ⌝ }
+{
+    Token {
+        place: place,
+        len: span(place, next),
+        kind: Token::INSTANCE,
+        number: 0,
+        flag: false,
+        announced: false,
+        name: 0,
+        held: Held::Nothing,
+    }
+}
+
+fn span(place: usize, next: usize) -> usize
+    ensures { λ r. ⌜ r ≡ next - place ⌝ }
+{
+    if next < place {
+        return 0;
+    }
+    next - place
+}
+
+// Token n, the body's own k-th: its mark and its number on the stacks, and its words in the sheet.
+fn note(
+    marks: &mut [u8],
+    numbers: &mut [u32],
+    sheet: &mut [u64],
+    k: usize,
+    n: usize,
+    left: u64,
+    t: Token,
+)
+    requires { ⌜ (k < length (now marks)) × (k < length (now numbers)) × (n < 65536) × (left ≤ deepestBody) ⌝ }
+    ensures { λ _. ⌜ now (marks .exit) ≡ set (now (marks .entry)) k (markOf t) ⌝ }
+    ensures { λ _. ⌜ now (numbers .exit) ≡ set (now (numbers .entry)) k n ⌝ }
+    ensures { λ _. ⌜ now (sheet .exit) ≡ sets (now (sheet .entry)) (n * 2) (wordsAt (deepestBody - left) t) ⌝ }
+{
+    marks[k] = sheet::mark(t);
+    numbers[k] = n as u32;
+    put_words(sheet, n, left, t);
+}
+
+// The words of token n.
+fn put_words(sheet: &mut [u64], n: usize, left: u64, t: Token)
+    requires { ⌜ (n ≤ 65536) × (left ≤ deepestBody) ⌝ }
+    ensures { λ _. ⌜ now (sheet .exit) ≡ sets (now (sheet .entry)) (n * 2) (wordsAt (deepestBody - left) t) ⌝ }
+{
+    let at = n * 2;
+    put_word(sheet, at, sheet::first_word(t) + (8 - left) * 0x10);
+    put_word(sheet, at + 1, sheet::second_word(t));
+}
+
+fn put_word(sheet: &mut [u64], at: usize, word: u64)
+    ensures { λ _. ⌜ now (sheet .exit) ≡ set (now (sheet .entry)) at word ⌝ }
+{
+    if at < sheet.len() {
+        sheet[at] = word;
+    }
+}
+
+fn put_owner(table: &mut [u32], at: usize, word: u32)
+    ensures { λ _. ⌜ now (table .exit) ≡ set (now (table .entry)) at word ⌝ }
+{
+    if at < table.len() {
+        table[at] = word;
+    }
+}
+
+// A window whose walk has ended, with k tokens of its own, n having been numbered: a walk in a value must have ended within it, and its tokens
+// must be a body.
+fn closed(
+    start: usize,
+    end: usize,
+    inside: bool,
+    last: usize,
+    k: usize,
+    n: usize,
+    marks: &[u8],
+    numbers: &[u32],
+    words: &mut [u32],
+    table: &mut [u32],
+) -> Counted
+    requires { ⌜ (k ≤ length (now marks)) × (k ≤ length (now numbers)) × (k ≤ 65536) × (k ≤ length (now words)) ⌝ }
+    requires { ⌜ Numbered (now numbers) k n ⌝ }
+    ensures { λ r. ⌜ countAnswer r ≡ pick (inside && ltb end last) (refuses pastValue start) (verdictAnswer n (numbersTo k n (now (numbers .entry))) (verdictOn (take k (now (marks .entry))))) ⌝ }
+    ensures { λ _. ⌜ now (table .exit) ≡ pick (inside && ltb end last) (now (table .entry)) (verdictTable (take k (now (numbers .entry))) (numbersTo k n (now (numbers .entry))) (verdictOn (take k (now (marks .entry)))) (now (table .entry))) ⌝ }
+{
+    if past(inside, end, last) {
+        return Counted::Refused(Refusal {
+            number: PAST_VALUE,
+            place: start,
+        });
+    }
+    judged(k, n, marks, numbers, words, table)
+}
+
+// A walk in a value has ended past it.
+fn past(inside: bool, end: usize, last: usize) -> bool
+    ensures { λ r. ⌜ r ≡ (inside && ltb end last) ⌝ }
+{
+    if inside {
+        return end < last;
+    }
+    false
+}
+
+fn judged(
+    k: usize,
+    n: usize,
+    marks: &[u8],
+    numbers: &[u32],
+    words: &mut [u32],
+    table: &mut [u32],
+) -> Counted
+    requires { ⌜ (k ≤ length (now marks)) × (k ≤ length (now numbers)) × (k ≤ 65536) × (k ≤ length (now words)) ⌝ }
+    requires { ⌜ Numbered (now numbers) k n ⌝ }
+    ensures { λ r. ⌜ countAnswer r ≡ verdictAnswer n (numbersTo k n (now (numbers .entry))) (verdictOn (take k (now (marks .entry)))) ⌝ }
+    ensures { λ _. ⌜ now (table .exit) ≡ verdictTable (take k (now (numbers .entry))) (numbersTo k n (now (numbers .entry))) (verdictOn (take k (now (marks .entry)))) (now (table .entry)) ⌝ }
+{
+    match body::judge(&marks[..k], words) {
+        Counted::Count(_) => {
+            lay(numbers, k, n, words, table);
+            Counted::Count(n)
+        }
+        Counted::Refused(r) => Counted::Refused(Refusal {
+            number: r.number,
+            place: number_of(numbers, k, n, r.place),
+        }),
+    }
+}
+
+// The owners of a body's own tokens, numbered through.
+fn lay(numbers: &[u32], k: usize, n: usize, words: &[u32], table: &mut [u32])
+    requires { ⌜ (k ≤ length (now numbers)) × (k ≤ length (now words)) ⌝ }
+    requires { ⌜ Numbered (now numbers) k n ⌝ }
+    ensures { λ _. ⌜ now (table .exit) ≡ setAt (take k (now (numbers .entry))) (map (renumbered (numbersTo k n (now (numbers .entry)))) (take k (now (words .entry)))) (now (table .entry)) ⌝ }
+{
+    let mut i: usize = 0;
+    while i < k {
+        put_owner(table, wide(numbers[i]), renumbered(numbers, k, n, words[i]));
+        i += 1;
+    }
+}
+
+fn renumbered(numbers: &[u32], k: usize, n: usize, word: u32) -> u32
+    requires { ⌜ k ≤ length (now numbers) ⌝ }
+    requires { ⌜ Numbered (now numbers) k n ⌝ }
+    ensures { λ r. ⌜ r ≡ renumbered (numbersTo k n (now (numbers .entry))) word ⌝ }
+{
+    if word == 0 {
+        return 0;
+    }
+    number_of(numbers, k, n, (word - 1) as usize) as u32 + 1
+}
+
+// The number of a body's own token i; after the last one, how many there are.
+fn number_of(numbers: &[u32], k: usize, n: usize, i: usize) -> usize
+    requires { ⌜ k ≤ length (now numbers) ⌝ }
+    requires { ⌜ Numbered (now numbers) k n ⌝ }
+    ensures { λ r. ⌜ (r ≡ getD (numbersTo k n (now (numbers .entry))) i 0) × (r ≤ 65536) ⌝ }
+{
+    if i < k {
+        return wide(numbers[i]);
+    }
+    if i == k {
+        return n;
+    }
+    0
+}
+
+fn wide(number: u32) -> usize
+    ensures { λ r. ⌜ r ≡ number ⌝ }
+{
+    number as usize
+}
+
+pub(crate) fn full() -> Counted
+    ensures { λ r. ⌜ countAnswer r ≡ refuses full 0 ⌝ }
+{
+    Counted::Refused(Refusal {
+        number: FULL,
+        place: 0,
+    })
+}

@@ -1,0 +1,2 @@
+-- The definitions that the contract of `nest_call` cites.
+pub mod Calls
