@@ -278,6 +278,13 @@ module _ (t : List ℕ) (n : ℕ) (table : List ℕ) where
     unfolding turn
     root-open e = sym (walk-step root h ∙ ap (λ (k : ℕ). onStep t n table (turn true deepest root n (announces (getD t n 0)) k)) (eqb-true (kindOf (getD t n 0)) openKind e))
 
+    -- the root's answer, taken apart
+    pub root-child : (w : ℕ) (left : List ℕ) (r r′ : Read) → isOpen (getD t n 0) ≡ true → w ≡ 0 → resume t (inside []) r left ≡ opened t n w [] table → r ≡ r′
+        → resume t (inside []) r′ left ≡ walk t root n table
+    root-child w left r r′ k z g e =
+        subst (λ (r : Read). resume t (inside []) r left ≡ walk t root n table) e
+        (g ∙ ap (λ (x : ℕ). opened t n x [] table) z ∙ root-open k)
+
     pub root-instance : (left : List ℕ) → getD t n 0 ≡ instanceKind → left ≡ set table n 0 → walk t (inside []) (n + 1) left ≡ walk t root n table
     unfolding turn kindOf
     root-instance left e l = walk-on root (inside []) 0 left h (ap (step true deepest root n) e) l
@@ -354,6 +361,18 @@ at-end t left (R.Refused p k) = refl
 -- a leaf's answer, taken apart
 pub resumed : (t left : List ℕ) (x : Out × List ℕ) (s : State) (r r′ : Read) → resume t s r left ≡ x → r ≡ r′ → resume t s r′ left ≡ x
 resumed t left x s r r′ h e = subst (λ (r : Read). resume t s r left ≡ x) e h
+
+-- an open tag's answer, taken apart
+pub tag-resumed : (t left : List ℕ) (x : Out × List ℕ) (me : ℕ) (st : List ℕ) (r r′ : Tagged) → tagResume t me st r left ≡ x → r ≡ r′ → tagResume t me st r′ left ≡ x
+tag-resumed t left x me st r r′ h e = subst (λ (r : Tagged). tagResume t me st r left ≡ x) e h
+
+-- what stands there is an open token, and is looked at: it is told so
+pub open-there : {A : Type 0} (t : List ℕ) (n at : ℕ) → n ≡ at → isOpen (getD t at 0) ≡ true → isOpen (getD t n 0) ≡ false → A
+open-there t n at e h f = not-told (isOpen (getD t n 0)) f (ap (λ (i : ℕ). isOpen (getD t i 0)) e ∙ h)
+
+-- the walk from the root's first token, where that is looked at
+pub from-first : (t : List ℕ) (n at : ℕ) (table table₀ : List ℕ) → n ≡ at → table ≡ table₀ → walk t root n table ≡ walk t root at table₀
+from-first t n at table table₀ e l = ap (λ (i : ℕ). walk t root i table) e ∙ ap (walk t root at) l
 
 module _ (t : List ℕ) (at : ℕ) where
   pub further-is : (r r′ : Read) → further t at r → r ≡ r′ → further t at r′

@@ -166,14 +166,25 @@ opened t at w st table = onStep t at table (opening deepest (announces (getD t a
 abbrev pub ElementRead : List ℕ → ℕ → ℕ → ℕ → List ℕ → Read → List ℕ → Type 0
 ElementRead t at above w table r left = (st : List ℕ) → length st ≡ above → resume t (inside st) r left ≡ opened t at w st table
 
+-- Content is that of the element of a level, the innermost of so many; at level 0 there is the root alone, whose open token comes first.
+abbrev pub Placed : List ℕ → ℕ → ℕ → ℕ → Type 0
+Placed t at level me = level ≡ 0 → (at < length t) × (isOpen (getD t at 0) ≡ true) × (me ≡ 0)
+
 abbrev pub ContentRead : List ℕ → ℕ → ℕ → ℕ → List ℕ → Read → List ℕ → Type 0
-ContentRead t at above me table r left = (st : List ℕ) → length st ≡ above → resume t (inside st) r left ≡ walk t (inside (me ∷ st)) at table
+ContentRead t at level me table r left =
+    (level ≡ 0 → resume t (inside []) r left ≡ walk t root at table)
+    × ((st : List ℕ) → suc (length st) ≡ level → resume t (inside st) r left ≡ walk t (inside (me ∷ st)) at table)
 
 abbrev pub LeafRead : List ℕ → ℕ → ℕ → List ℕ → Read → List ℕ → Type 0
 LeafRead t at me table r left = (st : List ℕ) → resume t (inside (me ∷ st)) r left ≡ walk t (inside (me ∷ st)) at table
 
 abbrev pub TagRead : Bool → List ℕ → ℕ → ℕ → ℕ → List ℕ → Tagged → List ℕ → Type 0
 TagRead announced t at last me table r left = (st : List ℕ) → tagResume t me st r left ≡ walk t (tag announced last me st) at table
+
+-- leaves in content, none or more, and the close token, if it follows: then the element is over
+abbrev pub LeavesRead : List ℕ → ℕ → ℕ → List ℕ → Tagged → List ℕ → Type 0
+LeavesRead t at me table r left =
+    ((before : ℕ) → before < at → tagFurther t before r) × ((st : List ℕ) → tagResume t me st r left ≡ walk t (inside (me ∷ st)) at table)
 
 -- after an open token at `at`
 abbrev pub OpenRead : List ℕ → ℕ → ℕ → List ℕ → Tagged → List ℕ → Type 0

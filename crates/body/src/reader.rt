@@ -10,7 +10,7 @@ ghost use Prim.Native.Nat.{_+_, _≤_, _<_};
 ghost use lib.ListN.{length, getD, set};
 ghost use Rattle.tokens.specs.Token.{closeElementKind, attributeKind, piTargetKind};
 ghost use Rattle.body.specs.Grammar.{announces};
-ghost use Rattle.body.specs.Reader.{isOpen, isItem, isLeaf, lackingOf, further, tagFurther, ElementRead, ContentRead, LeafRead, TagRead, OpenRead, TagEndRead, PairRead, PartRead, atEnd, wholeOf, walk, begin, root, inside};
+ghost use Rattle.body.specs.Reader.{isOpen, isItem, isLeaf, lackingOf, further, tagFurther, ElementRead, Placed, ContentRead, LeafRead, LeavesRead, TagRead, OpenRead, TagEndRead, PairRead, PartRead, atEnd, wholeOf, walk, begin, root, inside};
 
 // The token after what was read, or a refusal's place and number. (The place comes first: it then lies in memory where the token's number
 // does. An element's answer goes through memory, and a byte laid over that number had it put there in pieces.)
@@ -19,7 +19,7 @@ pub enum Read {
     Refused(usize, u8),
 }
 
-// An open tag's end: close empty or close start, and the token after it.
+// How far the front of an element was read, with the token after that: the element is over, or its content goes on there.
 pub enum Tagged {
     Empty(usize),
     Full(usize),
@@ -70,7 +70,7 @@ fn root_at(marks: &[u8], at: usize, table: &mut [u32]) -> Read
         return Read::Refused(at, Refusal::UNFINISHED);
     }
     if is_open(marks[at]) {
-        return element(marks, at, 0, 0, table);
+        return content(marks, at, 0, 0, table);
     }
     if marks[at] == Token::INSTANCE {
         put(table, at, 0);
@@ -118,30 +118,36 @@ fn element(marks: &[u8], at: usize, above: usize, owner: u32, table: &mut [u32])
     }
     put(table, at, owner);
     let me = (at + 1) as u32;
-    match open_tag(marks, at, me, table) {
+    match front(marks, at, me, table) {
         Tagged::Empty(next) => Read::Next(next),
-        Tagged::Full(next) => content(marks, next, above, me, table),
+        Tagged::Full(next) => content(marks, next, above + 1, me, table),
         Tagged::Refused(place, number) => Read::Refused(place, number),
     }
 }
 
-// Reads content from `at` on, through the close element token of its element, whose word is `me`.
-fn content(marks: &[u8], at: usize, above: usize, me: u32, table: &mut [u32]) -> Read
-    requires { ⌜ (at ≤ length (now marks)) × (length (now marks) ≤ 65536) × (above ≤ 65536) ⌝ }
+// Reads content from `at` on, through the close element token of its element, whose word is `me` and which is the one of this level; or at
+// level 0 the root alone, whose open token is at `at`. (The root is read here since `element` then has one caller, and is compiled into this
+// loop: only content that has elements in it is a call.)
+fn content(marks: &[u8], at: usize, level: usize, me: u32, table: &mut [u32]) -> Read
+    requires { ⌜ (at ≤ length (now marks)) × (length (now marks) ≤ 65536) × Placed (now marks) at level me ⌝ }
     ensures { λ r. ⌜ further (now (marks .entry)) at r ⌝ }
-    ensures { λ r. ⌜ ContentRead (now (marks .entry)) at above me (now (table .entry)) r (now (table .exit)) ⌝ }
+    ensures { λ r. ⌜ ContentRead (now (marks .entry)) at level me (now (table .entry)) r (now (table .exit)) ⌝ }
 {
     let mut i = at;
     while i < marks.len() {
-        if marks[i] == Token::CLOSE_ELEMENT {
-            put(table, i, me);
-            return Read::Next(i + 1);
-        }
         if is_open(marks[i]) {
-            match element(marks, i, above + 1, me, table) {
-                Read::Next(next) => i = next,
+            match element(marks, i, level, me, table) {
+                Read::Next(next) => {
+                    if level == 0 {
+                        return Read::Next(next);
+                    }
+                    i = next;
+                }
                 Read::Refused(place, number) => return Read::Refused(place, number),
             }
+        } else if marks[i] == Token::CLOSE_ELEMENT {
+            put(table, i, me);
+            return Read::Next(i + 1);
         } else {
             match leaf(marks, i, me, table) {
                 Read::Next(next) => i = next,
@@ -184,6 +190,41 @@ fn instruction(marks: &[u8], at: usize, me: u32, table: &mut [u32]) -> Read
     }
     put(table, at + 1, me);
     Read::Next(at + 2)
+}
+
+// Reads the front of an element, whose open token is at `at` and has the word `me` for what it owns: the open tag, and of its content the
+// tokens before the first element or instruction. An element without these is read whole.
+fn front(marks: &[u8], at: usize, me: u32, table: &mut [u32]) -> Tagged
+    requires { ⌜ (at < length (now marks)) × (length (now marks) ≤ 65536) ⌝ }
+    ensures { λ r. ⌜ tagFurther (now (marks .entry)) (at + 1) r ⌝ }
+    ensures { λ r. ⌜ OpenRead (now (marks .entry)) at me (now (table .entry)) r (now (table .exit)) ⌝ }
+{
+    match open_tag(marks, at, me, table) {
+        Tagged::Empty(next) => Tagged::Empty(next),
+        Tagged::Full(next) => leaves(marks, next, me, table),
+        Tagged::Refused(place, number) => Tagged::Refused(place, number),
+    }
+}
+
+// Reads items and CDATA in content, and the close element token behind them, if it is there.
+fn leaves(marks: &[u8], at: usize, me: u32, table: &mut [u32]) -> Tagged
+    requires { ⌜ at ≤ length (now marks) ⌝ }
+    ensures { λ r. ⌜ LeavesRead (now (marks .entry)) at me (now (table .entry)) r (now (table .exit)) ⌝ }
+{
+    let mut i = at;
+    while i < marks.len() {
+        let k = marks[i];
+        if is_leaf(k) {
+            put(table, i, me);
+            i += 1;
+        } else if k == Token::CLOSE_ELEMENT {
+            put(table, i, me);
+            return Tagged::Empty(i + 1);
+        } else {
+            return Tagged::Full(i);
+        }
+    }
+    Tagged::Full(i)
 }
 
 // Reads an open tag, whose open token is at `at` and has the word `me` for what it owns, through its close token.

@@ -1,7 +1,7 @@
 -- The cycle of `content` and `element` meets its contracts: each call is of fewer tokens, or of as many and of `element`. Assumes nothing.
 use mathlib.Core.Path.{_≡_, refl, sym, _∙_}
-use mathlib.Core.List.{List, _∷_}
-use Prim.Native.Nat.{ℕ, _+_, _-_, _*_, _≤_, _<_}
+use mathlib.Core.List.{List, [], _∷_}
+use Prim.Native.Nat.{ℕ, suc, _+_, _-_, _*_, _≤_, _<_}
 use native.Mathlib.Omega.{arith}
 use borrow.Author.Needs.{needs}
 use borrow.Fn.Kinds.{In}
@@ -15,9 +15,9 @@ use Rattle.body.proofs.reader.+content+element.Lts-content as content-l
 use Rattle.body.proofs.reader.element.Reads as element
 use Rattle.body.proofs.reader.element.Kinds as element-kinds
 use Rattle.body.proofs.reader.+content+element.Lts-element as element-lts
+use Rattle.body.proofs.reader.front.Reads as front-reads
 use Rattle.body.proofs.reader.is_open.Reads as is-open-reads
 use Rattle.body.proofs.reader.leaf.Reads as leaf-reads
-use Rattle.body.proofs.reader.open_tag.Reads as open-tag-reads
 use Rattle.body.proofs.reader.put.Reads as put-reads
 use Rattle.body.proofs.reader.+content+element.{statement}
 use Rattle.body.proofs.reader.+content+element.Tie.{close}
@@ -43,61 +43,93 @@ element-below t = and 2 element-kinds.ps (falls 2 element-kinds.ps _<_ μ-elemen
 
 -- the callees' contracts
 abbrev content-claims : ℕ → content-lts.Claims
-content-claims t = (put-reads.Asked, put-reads.Learnt, is-open-reads.Asked, is-open-reads.Learnt, element-below t, element.Post, leaf-reads.Asked, leaf-reads.Learnt)
+content-claims t = (is-open-reads.Asked, is-open-reads.Learnt, element-below t, element.Post, put-reads.Asked, put-reads.Learnt, leaf-reads.Asked, leaf-reads.Learnt)
 
 abbrev element-claims : ℕ → element-lts.Claims
-element-claims t = (put-reads.Asked, put-reads.Learnt, open-tag-reads.Asked, open-tag-reads.Learnt, content-below t, content.Post)
+element-claims t = (put-reads.Asked, put-reads.Learnt, front-reads.Asked, front-reads.Learnt, content-below t, content.Post)
 
 abbrev content-Inv-loop : content-lts.InvT-loop
-content-Inv-loop marks at above me table₀ i₀ table i =
-    (at ≤ i) × (i ≤ length marks) × (length table ≡ length table₀) × ((st : List ℕ) → length st ≡ above → walk marks (inside (me ∷ st)) i table ≡ walk marks (inside (me ∷ st)) at table₀)
+content-Inv-loop marks at level me table₀ i₀ table i =
+    (at ≤ i) × (i ≤ length marks) × (length table ≡ length table₀) × (level ≡ 0 → (i ≡ at) × (table ≡ table₀))
+    × ((st : List ℕ) → suc (length st) ≡ level → walk marks (inside (me ∷ st)) i table ≡ walk marks (inside (me ∷ st)) at table₀)
 
 abbrev content-μ-loop : content-lts.MeasureT-loop
-content-μ-loop marks at above me table₀ i₀ table i = length marks - i
+content-μ-loop marks at level me table₀ i₀ table i = length marks - i
 
 content-loop-holds : (t : ℕ) → content-lts.Need-loop-holds (content-claims t) (content-at t) content.Post content-Inv-loop content-μ-loop
-content-loop-holds t c = (omega arith, omega (arith, c .before .before .pre), refl, λ st h. refl)
-
-content-returns : (t : ℕ) → content-lts.Need-returns (content-claims t) (content-at t) content.Post content-Inv-loop content-μ-loop
-content-returns t c =
-    let l = c .before .before .before .before .before .before .before .loop in
-    let h = c .before .before .before .before .before .before .loop-test .taken in
-    let p = c .before .before .put in
-    (omega arith, λ st e. walking.inside-close _ _ _ h _ st _ (c .before .before .before .before .if1 .taken) (p .ensures) ∙ l .inv .3 st e)
+content-loop-holds t c = (omega arith, omega (arith, c .before .before .pre), refl, λ z. (refl, refl), λ st e. refl)
 
 content-element-requires : (t : ℕ) → content-lts.Need-element-requires (content-claims t) (content-at t) content.Post content-Inv-loop content-μ-loop
 content-element-requires t c κs = (omega arith, omega arith)
 
+content-returns : (t : ℕ) → content-lts.Need-returns (content-claims t) (content-at t) content.Post content-Inv-loop content-μ-loop
+content-returns t c =
+    let l = c .before .before .before .before .before .before .before .before .before .before .before .before .loop in
+    let h = c .before .before .before .before .before .before .before .before .before .before .before .loop-test .taken in
+    let q = c .before .before .before .before .before .before .before .before .before .before .before .before .before .before .before .pre .1 .2 in
+    let k = sym (c .before .before .before .before .before .before .before .before .before .is-open .ensures) ∙ c .before .before .before .before .before .before .before .before .if1 .taken in
+    let got = c .before .before .before .before .before .before .element in
+    let n = c .before .before .next .given .1 in
+    let f = walking.further-is _ _ (got .result) _ (got .ensures .0) n in (
+      (omega (arith, f .0), f .1),
+      (
+        λ z. walking.root-child _ _ _ h _ _ (got .result) _ k (q z .2) (got .ensures .1 [] (sym z)) n ∙ walking.from-first _ _ _ _ _ (l .inv .3 z .0) (l .inv .3 z .1),
+        λ st e. absurd (omega (arith, e, c .if2 .taken)),
+      ),
+    )
+
 content-loop-less : (t : ℕ) → content-lts.Need-loop-less (content-claims t) (content-at t) content.Post content-Inv-loop content-μ-loop
 content-loop-less t c =
-    let got = c .before .before .before .before .before .element in
-    let f = walking.further-is _ _ (got .result) _ (got .ensures .0) (c .before .next .given .1) in
+    let got = c .before .before .before .before .before .before .element in
+    let f = walking.further-is _ _ (got .result) _ (got .ensures .0) (c .before .before .next .given .1) in
     omega (arith, f .0, f .1)
 
 content-loop-again : (t : ℕ) → content-lts.Need-loop-again (content-claims t) (content-at t) content.Post content-Inv-loop content-μ-loop
 content-loop-again t c =
-    let l = c .before .before .before .before .before .before .before .before .before .before .before .before .before .loop in
-    let h = c .before .before .before .before .before .before .before .before .before .before .before .before .loop-test .taken in
-    let got = c .before .before .before .before .before .element in
-    let n = c .before .next .given .1 in
+    let l = c .before .before .before .before .before .before .before .before .before .before .before .before .loop in
+    let h = c .before .before .before .before .before .before .before .before .before .before .before .loop-test .taken in
+    let k = sym (c .before .before .before .before .before .before .before .before .before .is-open .ensures) ∙ c .before .before .before .before .before .before .before .before .if1 .taken in
+    let got = c .before .before .before .before .before .before .element in
+    let n = c .before .before .next .given .1 in
     let f = walking.further-is _ _ (got .result) _ (got .ensures .0) n in (
       omega (arith, f .0),
       f .1,
       omega arith,
-      λ st e. walking.inside-child _ _ _ h _ st _ _ _ (sym (c .before .before .before .before .before .before .before .before .is-open .ensures) ∙ c .before .before .before .before .before .before .before .if2 .taken) (got .ensures .1 (_ ∷ st) (omega (arith, e))) n ∙ l .inv .3 st e,
+      λ z. absurd (c .if2 .left z),
+      λ st e. walking.inside-child _ _ _ h _ st _ _ _ k (got .ensures .1 (_ ∷ st) (omega (arith, e))) n ∙ l .inv .4 st e,
     )
 
 content-returns-2 : (t : ℕ) → content-lts.Need-returns-2 (content-claims t) (content-at t) content.Post content-Inv-loop content-μ-loop
 content-returns-2 t c =
-    let l = c .before .before .before .before .before .before .before .before .before .before .before .before .before .loop in
-    let h = c .before .before .before .before .before .before .before .before .before .before .before .before .loop-test .taken in
-    let got = c .before .before .before .before .before .element in (
+    let l = c .before .before .before .before .before .before .before .before .before .before .before .loop in
+    let h = c .before .before .before .before .before .before .before .before .before .before .loop-test .taken in
+    let q = c .before .before .before .before .before .before .before .before .before .before .before .before .before .before .pre .1 .2 in
+    let k = sym (c .before .before .before .before .before .before .before .before .is-open .ensures) ∙ c .before .before .before .before .before .before .before .if1 .taken in
+    let got = c .before .before .before .before .before .element in
+    let n = c .before .place .given .1 in (
       tt {0},
-      λ st e. walking.inside-child _ _ _ h _ st _ _ _ (sym (c .before .before .before .before .before .before .before .before .is-open .ensures) ∙ c .before .before .before .before .before .before .before .if2 .taken) (got .ensures .1 (_ ∷ st) (omega (arith, e))) (c .before .place .given .1) ∙ l .inv .3 st e,
+      (
+        λ z. walking.root-child _ _ _ h _ _ (got .result) _ k (q z .2) (got .ensures .1 [] (sym z)) n ∙ walking.from-first _ _ _ _ _ (l .inv .3 z .0) (l .inv .3 z .1),
+        λ st e. walking.inside-child _ _ _ h _ st _ _ _ k (got .ensures .1 (_ ∷ st) (omega (arith, e))) n ∙ l .inv .4 st e,
+      ),
+    )
+
+content-returns-3 : (t : ℕ) → content-lts.Need-returns-3 (content-claims t) (content-at t) content.Post content-Inv-loop content-μ-loop
+content-returns-3 t c =
+    let l = c .before .before .before .before .before .before .before .before .before .before .loop in
+    let h = c .before .before .before .before .before .before .before .before .before .loop-test .taken in
+    let q = c .before .before .before .before .before .before .before .before .before .before .before .before .before .pre .1 .2 in
+    let k = sym (c .before .before .before .before .before .before .before .is-open .ensures) ∙ c .before .before .before .before .before .before .if1 .left in
+    let p = c .before .before .put in (
+      omega arith,
+      (
+        λ z. walking.open-there (c .before .before .before .before .before .before .before .before .before .before .before .before .before .args .marks .now) _ _ (l .inv .3 z .0) (q z .1) k,
+        λ st e. walking.inside-close _ _ _ h _ st _ (c .before .before .before .before .if3 .taken) (p .ensures) ∙ l .inv .4 st e,
+      ),
     )
 
 content-leaf-requires : (t : ℕ) → content-lts.Need-leaf-requires (content-claims t) (content-at t) content.Post content-Inv-loop content-μ-loop
-content-leaf-requires t c κs = (c .before .before .before .before .before .before .loop-test .taken, c .before .before .before .before .if1 .left, sym (c .before .before .is-open .ensures) ∙ c .before .if2 .left)
+content-leaf-requires t c κs = (c .before .before .before .before .before .before .loop-test .taken, c .before .if3 .left, sym (c .before .before .before .before .is-open .ensures) ∙ c .before .before .before .if1 .left)
 
 content-loop-less-2 : (t : ℕ) → content-lts.Need-loop-less-2 (content-claims t) (content-at t) content.Post content-Inv-loop content-μ-loop
 content-loop-less-2 t c =
@@ -108,19 +140,41 @@ content-loop-less-2 t c =
 content-loop-again-2 : (t : ℕ) → content-lts.Need-loop-again-2 (content-claims t) (content-at t) content.Post content-Inv-loop content-μ-loop
 content-loop-again-2 t c =
     let l = c .before .before .before .before .before .before .before .before .before .before .before .before .before .loop in
+    let q = c .before .before .before .before .before .before .before .before .before .before .before .before .before .before .before .before .pre .1 .2 in
+    let k = sym (c .before .before .before .before .before .before .before .before .before .before .is-open .ensures) ∙ c .before .before .before .before .before .before .before .before .before .if1 .left in
     let got = c .before .before .before .before .before .leaf in
     let n = c .before .next2 .given .1 in
-    let f = walking.further-is _ _ (got .result) _ (got .ensures .0) n in
-    (omega (arith, f .0), f .1, omega arith, λ st e. walking.resumed _ _ _ _ _ _ (got .ensures .1 st) n ∙ l .inv .3 st e)
-
-content-returns-3 : (t : ℕ) → content-lts.Need-returns-3 (content-claims t) (content-at t) content.Post content-Inv-loop content-μ-loop
-content-returns-3 t c =
-    let l = c .before .before .before .before .before .before .before .before .before .before .before .before .before .loop in
-    let got = c .before .before .before .before .before .leaf in
-    (tt {0}, λ st e. walking.resumed _ _ _ _ _ _ (got .ensures .1 st) (c .before .place2 .given .1) ∙ l .inv .3 st e)
+    let f = walking.further-is _ _ (got .result) _ (got .ensures .0) n in (
+      omega (arith, f .0),
+      f .1,
+      omega arith,
+      λ z. walking.open-there (c .before .before .before .before .before .before .before .before .before .before .before .before .before .before .before .before .args .marks .now) _ _ (l .inv .3 z .0) (q z .1) k,
+      λ st e. walking.resumed _ _ _ _ _ _ (got .ensures .1 st) n ∙ l .inv .4 st e,
+    )
 
 content-returns-4 : (t : ℕ) → content-lts.Need-returns-4 (content-claims t) (content-at t) content.Post content-Inv-loop content-μ-loop
-content-returns-4 t c = (tt {0}, λ st e. walking.inside-ended _ _ _ _ st (c .loop-test .left) ∙ c .before .loop .inv .3 st e)
+content-returns-4 t c =
+    let l = c .before .before .before .before .before .before .before .before .before .before .before .before .before .loop in
+    let q = c .before .before .before .before .before .before .before .before .before .before .before .before .before .before .before .before .pre .1 .2 in
+    let k = sym (c .before .before .before .before .before .before .before .before .before .before .is-open .ensures) ∙ c .before .before .before .before .before .before .before .before .before .if1 .left in
+    let got = c .before .before .before .before .before .leaf in (
+      tt {0},
+      (
+        λ z. walking.open-there (c .before .before .before .before .before .before .before .before .before .before .before .before .before .before .before .before .args .marks .now) _ _ (l .inv .3 z .0) (q z .1) k,
+        λ st e. walking.resumed _ _ _ _ _ _ (got .ensures .1 st) (c .before .place2 .given .1) ∙ l .inv .4 st e,
+      ),
+    )
+
+content-returns-5 : (t : ℕ) → content-lts.Need-returns-5 (content-claims t) (content-at t) content.Post content-Inv-loop content-μ-loop
+content-returns-5 t c =
+    let l = c .before .loop in
+    let q = c .before .before .before .before .pre .1 .2 in (
+      tt {0},
+      (
+        λ z. absurd (omega (arith, q z .0, l .inv .3 z .0, c .loop-test .left)),
+        λ st e. walking.inside-ended _ _ _ _ st (c .loop-test .left) ∙ l .inv .4 st e,
+      ),
+    )
 
 element-returns : (t : ℕ) → element-lts.Need-returns (element-claims t) (element-at t) element.Post
 element-returns t c =
@@ -130,15 +184,15 @@ element-returns t c =
 element-content-requires : (t : ℕ) → element-lts.Need-content-requires (element-claims t) (element-at t) element.Post
 element-content-requires t c κs =
     let p = c .before .before .before .before .before .before .before .before .before .before .before .before .before .before .before .pre in
-    let got = c .before .before .before .before .before .before .open-tag in
+    let got = c .before .before .before .before .before .before .front in
     let f = walking.tag-further-is _ _ (got .result) _ (got .ensures .0) (c .before .before .next2 .given .1) in
-    (omega (arith, p, f .0, f .1), omega (arith, p, f .1))
+    (omega (arith, p, f .0, f .1), (f .1, p .1 .1, λ z. absurd (omega (arith, z))))
 
 element-returns-2 : (t : ℕ) → element-lts.Need-returns-2 (element-claims t) (element-at t) element.Post
 element-returns-2 t c =
     let h = c .before .before .before .before .before .before .before .before .before .before .before .if1 .left in
     let p = c .before .before .before .before .before .before .before .before .before .put in
-    let got = c .before .before .before .before .before .open-tag in
+    let got = c .before .before .before .before .before .front in
     let n = c .before .next .given .1 in
     let f = walking.tag-further-is _ _ (got .result) _ (got .ensures .0) n in (
       (omega (arith, f .0), f .1),
@@ -149,19 +203,19 @@ element-returns-3 : (t : ℕ) → element-lts.Need-returns-3 (element-claims t) 
 element-returns-3 t c =
     let h = c .before .before .before .before .before .before .before .before .before .before .before .before .before .before .before .if1 .left in
     let p = c .before .before .before .before .before .before .before .before .before .before .before .before .before .put in
-    let got = c .before .before .before .before .before .before .before .before .before .open-tag in
+    let got = c .before .before .before .before .before .before .before .before .before .front in
     let n = c .before .before .before .before .before .next2 .given .1 in
     let f = walking.tag-further-is _ _ (got .result) _ (got .ensures .0) n in
     let r = c .before .before .content in (
       walking.later _ _ _ (r .result) (omega (arith, f .0)) (r .ensures .0),
-      λ st e. r .ensures .1 st e ∙ walking.opened-tag _ _ _ _ st _ _ _ _ (omega (arith, e, h)) (p .ensures) (got .ensures .1 st) n,
+      λ st e. r .ensures .1 .1 st (omega (arith, e)) ∙ walking.opened-tag _ _ _ _ st _ _ _ _ (omega (arith, e, h)) (p .ensures) (got .ensures .1 st) n,
     )
 
 element-returns-4 : (t : ℕ) → element-lts.Need-returns-4 (element-claims t) (element-at t) element.Post
 element-returns-4 t c =
     let h = c .before .before .before .before .before .before .before .before .before .before .before .if1 .left in
     let p = c .before .before .before .before .before .before .before .before .before .put in
-    let got = c .before .before .before .before .before .open-tag in
+    let got = c .before .before .before .before .before .front in
     (tt {0}, λ st e. walking.opened-tag _ _ _ _ st _ _ _ _ (omega (arith, e, h)) (p .ensures) (got .ensures .1 st) (c .before .place .given .1))
 
 pub +content+element-spec : {M : Type 1} → statement M
@@ -179,28 +233,29 @@ pub +content+element-spec : {M : Type 1} → statement M
     (content-loop-holds t)
     (λ c. search needs)
     (λ c κs. search needs)
-    (λ c. omega arith)
-    (λ c. omega arith)
-    (content-returns t)
-    (λ c. search needs)
-    (λ c κs. search needs)
-    (λ c. omega arith)
     (content-element-requires t)
     (λ c. search needs)
+    (λ c. omega arith)
+    (content-returns t)
     (content-loop-less t)
     (content-loop-again t)
     (λ c. search needs)
     (λ c. omega arith)
     (content-returns-2 t)
+    (λ c. search needs)
+    (λ c κs. search needs)
+    (λ c. omega arith)
+    (λ c. omega arith)
+    (content-returns-3 t)
     (content-leaf-requires t)
     (λ c. search needs)
     (content-loop-less-2 t)
     (content-loop-again-2 t)
     (λ c. search needs)
     (λ c. omega arith)
-    (content-returns-3 t)
+    (content-returns-4 t)
     (λ c. omega arith)
-    (content-returns-4 t))
+    (content-returns-5 t))
     λ t.
     element-lts.spec
     (element-claims t)
@@ -211,6 +266,7 @@ pub +content+element-spec : {M : Type 1} → statement M
     (λ c. omega arith)
     (λ c. omega arith)
     (λ c κs. search needs)
+    (λ c. search needs)
     (λ c. search needs)
     (λ c. search needs)
     (element-content-requires t)

@@ -1,6 +1,6 @@
 -- `root_at` meets its contract. Assumes nothing.
 use mathlib.Core.Path.{refl, sym, _∙_}
-use mathlib.Core.List.{[]}
+use native.Mathlib.Omega.{arith}
 use borrow.Author.Needs.{needs}
 use Rattle.body.proofs.Walking as walking
 use Rattle.body.proofs.reader.root_at.Statement.{statement}
@@ -10,14 +10,16 @@ returns : tie.Need-returns
 returns c =
     walking.root-ended _ _ _ (c .if1 .taken)
 
-element-requires : tie.Need-element-requires
-element-requires c κs =
-    (c .before .before .before .before .if1 .left, c .before .before .before .before .before .before .before .pre)
+content-requires : tie.Need-content-requires
+content-requires c κs =
+    let h = c .before .before .before .before .if1 .left in (
+      omega (arith, h),
+      c .before .before .before .before .before .before .before .pre,
+      λ z. (h, sym (c .before .before .is-open .ensures) ∙ c .before .if2 .taken, refl),
+    )
 
 returns-2 : tie.Need-returns-2
-returns-2 c =
-    c .before .before .element .ensures .1 [] refl
-    ∙ walking.root-open _ _ _ (c .before .before .before .before .before .before .before .if1 .left) (sym (c .before .before .before .before .before .is-open .ensures) ∙ c .before .before .before .before .if2 .taken)
+returns-2 c = c .before .before .content .ensures .1 .0 refl
 
 returns-3 : tie.Need-returns-3
 returns-3 c =
@@ -34,7 +36,7 @@ root-at-spec =
     returns
     (λ c. search needs)
     (λ c κs. search needs)
-    element-requires
+    content-requires
     (λ c. search needs)
     returns-2
     (λ c. search needs)
