@@ -19,8 +19,8 @@ use Rattle.body.proofs.One.{one-verdict}
 use Rattle.tokens.specs.Walk.{windowOf}
 use Rattle.tokens.specs.declared.Flags.{Flags}
 use Rattle.body.specs.Verdict.{Both, both, followed, bothAnswer, writtenBy, bothLeft}
-use Rattle.nest.specs.Nested.{Entry, sheetOf, ownersOf, bothWords, inWindow, nestedOf, Nested}
-use Rattle.nest.specs.Pieces.{full, Laid, WalkRead, windowBy, Tried, Noted}
+use Rattle.nest.specs.Nested.{Entry, sheetOf, ownersOf, bothWords, entryCount, inWindow, nestedOf, Nested, Counts}
+use Rattle.nest.specs.Pieces.{full, FullAnswer, Laid, WalkRead, windowBy, Tried, CountTried, Noted}
 use Rattle.nest.proofs.Stacks.{sheet-length}
 
 -- the answer by the two tests for room
@@ -178,3 +178,36 @@ pub tried-again : (s : List ℕ) (room : ℕ) (x : Result (List Entry)) (lent le
 tried-again s room x lent left last k p o w h =
     let e : left ≡ lent = ⊎-elim (λ y. y .2) (λ y. y .1 ∙ refused-left (bothWords x) lent k p (y .0)) w in
     (h .0 ∙ ap (bothAnswer (bothWords x)) e, h .1 ∙ ap (bothLeft (bothWords x)) e)
+
+-- what is counted by the reader's verdict, and so by every such judge
+module _ (s : List ℕ) (start len : ℕ) (f : Flags) (o : Result ℕ) where
+  abbrev CountBy : (List ℕ → Result (List ℕ)) → Type 0
+  CountBy judge = o ≡ entryCount (nestedOf judge s start len f)
+
+  count-any : CountBy verdictOn → Counts s start len f o
+  count-any h judge right =
+      let e : verdictOn ≡ judge = λ i t. one-verdict t (verdict-right t) (right t) i in
+      subst CountBy e h
+
+  pub count-window : (from end : ℕ) → gives (from, end) ≡ windowOf s start len → o ≡ entryCount (windowBy s 8 false f 0 from end) → Counts s start len f o
+  count-window from end e h = count-any (subst (λ (w : Result (ℕ × ℕ)). o ≡ entryCount (inWindow verdictOn s f w)) e h)
+
+  pub count-refusal : (k p : ℕ) → refuses k p ≡ windowOf s start len → o ≡ refuses k p → Counts s start len f o
+  count-refusal k p e q = count-any (subst (λ (w : Result (ℕ × ℕ)). o ≡ entryCount (inWindow verdictOn s f w)) e q)
+
+-- a walk into no words at all
+pub count-tried : (s : List ℕ) (room : ℕ) (x : Result (List Entry)) (end : ℕ) (sheet₀ sheet table₀ table : List ℕ) (o : Result ℕ)
+    → WalkRead s room x 0 false end sheet₀ sheet table₀ table o → CountTried s room x o
+count-tried s room x end sheet₀ sheet table₀ table (gives m) w =
+    let y = w .0 in
+    let c : m ≡ length (y .entries) = omega (arith, y .count) in
+    inr (ap gives c ∙ ap entryCount (sym (y .holds)))
+count-tried s room x end sheet₀ sheet table₀ table (refuses k p) w =
+    ⊎-elim (λ y. inl (y .0, omega (arith, y .1))) (λ y. inr (ap entryCount (sym y))) w
+
+-- the stacks are long enough for every stream, or for this one
+pub count-whole : (s : List ℕ) (room : ℕ) (x : Result (List Entry)) (o : Result ℕ) → length s ≤ room → CountTried s room x o → o ≡ entryCount x
+count-whole s room x o b w = ⊎-elim (λ y. absurd (omega (arith, y .1, b))) (λ y. y) w
+
+pub count-enough : (s : List ℕ) (room : ℕ) (x : Result (List Entry)) (o : Result ℕ) → (FullAnswer o → ⊥) → CountTried s room x o → o ≡ entryCount x
+count-enough s room x o h w = ⊎-elim (λ y. absurd (h (y .0))) (λ y. y) w

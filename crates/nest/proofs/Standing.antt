@@ -24,7 +24,7 @@ use Rattle.tokens.specs.declared.Values.{Values}
 use Rattle.tokens.proofs.Sights.{Sees, sight-sees}
 use Rattle.sheet.specs.Sheet.{markOf, marksOf}
 use Rattle.nest.specs.Nested.{binXml, ninthLevel, Entry, Own, own, Inner, heldIn, valuesFrom, nestAt, tokensOf, wordsAt, sheetOf, ownersOf}
-use Rattle.nest.specs.Pieces.{full, refusalOf, instanceToken, tokenEvent, seenEvent, heldEvent, valueEvent, eventAt, numbersOf, countIn, sheetOwn, tableOwn}
+use Rattle.nest.specs.Pieces.{full, refusalOf, lastOf, instanceToken, tokenEvent, seenEvent, heldEvent, valueEvent, eventAt, numbersOf, countIn, sheetOwn, tableOwn}
 use Rattle.nest.specs.declared.inner.Event.{Event}
 use Rattle.nest.specs.declared.inner.Event.the-variants as E
 use Rattle.nest.specs.declared.inner.Place.{Place}
@@ -35,21 +35,21 @@ use Rattle.nest.proofs.Values.{NextIs, next-is, value-spans}
 
 -- an event's case, by a number
 abbrev caseOf : Event → ℕ
-caseOf (E.Token t to) = 0
-caseOf (E.Body at size to) = 1
-caseOf (E.Ended t to) = 2
+caseOf (E.Token to t) = 0
+caseOf (E.Body to at size) = 1
+caseOf (E.Ended to t) = 2
 caseOf (E.Moved to) = 3
-caseOf (E.Over last) = 4
+caseOf (E.Over to) = 4
 caseOf (E.Refused r) = 5
 
 differs : {A : Type 0} (x y : Event) → x ≡ y → (caseOf x ≡ caseOf y → ⊥) → A
 differs x y e n = absurd (n (ap caseOf e))
 
 -- the parts of an event
-token-parts : (t u : Token) (to at : Place) → E.Token t to ≡ E.Token u at → (t ≡ u) × (to ≡ at)
+token-parts : (t u : Token) (to at : Place) → E.Token to t ≡ E.Token at u → (t ≡ u) × (to ≡ at)
 token-parts t u to at e = (cc, cc)
 
-body-parts : (a b x y : ℕ) (to at : Place) → E.Body a x to ≡ E.Body b y at → (a ≡ b) × (x ≡ y) × (to ≡ at)
+body-parts : (a b x y : ℕ) (to at : Place) → E.Body to a x ≡ E.Body at b y → (a ≡ b) × (x ≡ y) × (to ≡ at)
 body-parts a b x y to at e = (cc, cc, cc)
 
 -- an instance's token, whose numbers are in it
@@ -166,7 +166,7 @@ module _ (level first : ℕ) (sheet₀ table₀ : List ℕ) where
       -- an instance's head has ended, or a token
       module _ (t : Token) (to : Place) (marks′ numbers′ sheet′ : List ℕ) (l : k < length marks) (m : k < length numbers) (a : marks′ ≡ set marks k (markOf t))
           (b : numbers′ ≡ set numbers k n) (c : sheet′ ≡ sets sheet (n * 2) (wordsAt level t)) where
-        from-seen : (at : ℕ) → Going at n k marks numbers sheet table → (x : Answer Seen) → sightAt s end f at ≡ x → Sees at (length s) x → seenEvent room at x ≡ E.Token t to
+        from-seen : (at : ℕ) → Going at n k marks numbers sheet table → (x : Answer Seen) → sightAt s end f at ≡ x → Sees at (length s) x → seenEvent room at x ≡ E.Token to t
             → Goes (P.Between at) to (n + 1) n (k + 1) marks′ numbers′ sheet′ table
         from-seen at g (given (begun i) next) e h q = by-room room q
           where
@@ -202,11 +202,11 @@ module _ (level first : ℕ) (sheet₀ table₀ : List ℕ) where
                 began (given l last) = prepended-twice (g .done) (own (instanceOf i at last) l ∷ []) (nestAt s inner end f (suc n + length l) last)
                 began (refused k p) = refl
 
-            by-room : (r : Bool) → tokenEvent r (instanceToken at next) (P.Inside at (valuesOf i)) ≡ E.Token t to → Goes (P.Between at) to (n + 1) n (k + 1) marks′ numbers′ sheet′ table
+            by-room : (r : Bool) → tokenEvent r (instanceToken at next) (P.Inside at (valuesOf i)) ≡ E.Token to t → Goes (P.Between at) to (n + 1) n (k + 1) marks′ numbers′ sheet′ table
             by-room true q =
                 let z = token-parts (instanceToken at next) t (P.Inside at (valuesOf i)) to q in
                 made (sym (z .0)) (sym (z .1))
-            by-room false q = differs (E.Refused (refusalOf full 0)) (E.Token t to) q (λ z. omega arith)
+            by-room false q = differs (E.Refused (refusalOf full 0)) (E.Token to t) q (λ z. omega arith)
         from-seen at g (given (met (handed u)) next) e h q = by-room room q
           where
             made : u ≡ t → P.Between next ≡ to → Goes (P.Between at) to (n + 1) n (k + 1) marks′ numbers′ sheet′ table
@@ -222,27 +222,27 @@ module _ (level first : ℕ) (sheet₀ table₀ : List ℕ) where
                   omega (arith, h .0, h .1),
                 )
 
-            by-room : (r : Bool) → tokenEvent r u (P.Between next) ≡ E.Token t to → Goes (P.Between at) to (n + 1) n (k + 1) marks′ numbers′ sheet′ table
+            by-room : (r : Bool) → tokenEvent r u (P.Between next) ≡ E.Token to t → Goes (P.Between at) to (n + 1) n (k + 1) marks′ numbers′ sheet′ table
             by-room true q =
                 let z = token-parts u t (P.Between next) to q in
                 made (z .0) (z .1)
-            by-room false q = differs (E.Refused (refusalOf full 0)) (E.Token t to) q (λ z. omega arith)
-        from-seen at g (given (met header) next) e h q = differs (E.Moved (P.Between next)) (E.Token t to) q (λ z. omega arith)
-        from-seen at g (given (met over) next) e h q = differs (E.Over next) (E.Token t to) q (λ z. omega arith)
-        from-seen at g (refused j p) e h q = differs (E.Refused (refusalOf j p)) (E.Token t to) q (λ z. omega arith)
+            by-room false q = differs (E.Refused (refusalOf full 0)) (E.Token to t) q (λ z. omega arith)
+        from-seen at g (given (met header) next) e h q = differs (E.Moved (P.Between next)) (E.Token to t) q (λ z. omega arith)
+        from-seen at g (given (met over) next) e h q = differs (E.Over (P.Between next)) (E.Token to t) q (λ z. omega arith)
+        from-seen at g (refused j p) e h q = differs (E.Refused (refusalOf j p)) (E.Token to t) q (λ z. omega arith)
 
-        not-held : (v : Values) (place : ℕ) (x : Result (Maybe ValueNext)) → valueEvent left place v x ≡ E.Token t to → ⊥
+        not-held : (v : Values) (place : ℕ) (x : Result (Maybe ValueNext)) → valueEvent left place v x ≡ E.Token to t → ⊥
         not-held v place (gives (just x)) q = by-code (eqb (x .value .code) binXml) (eqb left 0) q
           where
             by-code : (a b : Bool)
-                → pick a (pick b (E.Refused (refusalOf ninthLevel (x .value .start))) (E.Body (x .value .start) (x .size) (P.Inside place (x .rest)))) (E.Moved (P.Inside place (x .rest))) ≡ E.Token t to → ⊥
-            by-code true true q = differs (E.Refused (refusalOf ninthLevel (x .value .start))) (E.Token t to) q (λ z. omega arith)
-            by-code true false q = differs (E.Body (x .value .start) (x .size) (P.Inside place (x .rest))) (E.Token t to) q (λ z. omega arith)
-            by-code false b q = differs (E.Moved (P.Inside place (x .rest))) (E.Token t to) q (λ z. omega arith)
-        not-held v place (gives nothing) q = differs (E.Ended (instanceToken place (v .at)) (P.Between (v .at))) (E.Token t to) q (λ z. omega arith)
-        not-held v place (refuses j p) q = differs (E.Refused (refusalOf j p)) (E.Token t to) q (λ z. omega arith)
+                → pick a (pick b (E.Refused (refusalOf ninthLevel (x .value .start))) (E.Body (P.Inside place (x .rest)) (x .value .start) (x .size))) (E.Moved (P.Inside place (x .rest))) ≡ E.Token to t → ⊥
+            by-code true true q = differs (E.Refused (refusalOf ninthLevel (x .value .start))) (E.Token to t) q (λ z. omega arith)
+            by-code true false q = differs (E.Body (P.Inside place (x .rest)) (x .value .start) (x .size)) (E.Token to t) q (λ z. omega arith)
+            by-code false b q = differs (E.Moved (P.Inside place (x .rest))) (E.Token to t) q (λ z. omega arith)
+        not-held v place (gives nothing) q = differs (E.Ended (P.Between (v .at)) (instanceToken place (v .at))) (E.Token to t) q (λ z. omega arith)
+        not-held v place (refuses j p) q = differs (E.Refused (refusalOf j p)) (E.Token to t) q (λ z. omega arith)
 
-        pub on-token : (place : Place) → Stands place n last k marks numbers sheet table → eventAt s end f left room place ≡ E.Token t to
+        pub on-token : (place : Place) → Stands place n last k marks numbers sheet table → eventAt s end f left room place ≡ E.Token to t
             → Goes place to (n + 1) n (k + 1) marks′ numbers′ sheet′ table
         on-token (P.Between at) g q = from-seen at g (sightAt s end f at) refl (sight-sees s end f at) q
         on-token (P.Inside place v) g q = absurd (not-held v place (nextOf s v) q)
@@ -254,12 +254,12 @@ module _ (level first : ℕ) (sheet₀ table₀ : List ℕ) where
         moved-seen at g (given (begun i) next) e h q = by-room room q
           where
             by-room : (r : Bool) → tokenEvent r (instanceToken at next) (P.Inside at (valuesOf i)) ≡ E.Moved to → Goes (P.Between at) to n last k marks numbers sheet table
-            by-room true q = differs (E.Token (instanceToken at next) (P.Inside at (valuesOf i))) (E.Moved to) q (λ z. omega arith)
+            by-room true q = differs (E.Token (P.Inside at (valuesOf i)) (instanceToken at next)) (E.Moved to) q (λ z. omega arith)
             by-room false q = differs (E.Refused (refusalOf full 0)) (E.Moved to) q (λ z. omega arith)
         moved-seen at g (given (met (handed u)) next) e h q = by-room room q
           where
             by-room : (r : Bool) → tokenEvent r u (P.Between next) ≡ E.Moved to → Goes (P.Between at) to n last k marks numbers sheet table
-            by-room true q = differs (E.Token u (P.Between next)) (E.Moved to) q (λ z. omega arith)
+            by-room true q = differs (E.Token (P.Between next) u) (E.Moved to) q (λ z. omega arith)
             by-room false q = differs (E.Refused (refusalOf full 0)) (E.Moved to) q (λ z. omega arith)
         moved-seen at g (given (met header) next) e h q =
             let r : P.Between next ≡ to = cc in
@@ -273,7 +273,7 @@ module _ (level first : ℕ) (sheet₀ table₀ : List ℕ) where
               }),
               omega (arith, h .0, h .1),
             )
-        moved-seen at g (given (met over) next) e h q = differs (E.Over next) (E.Moved to) q (λ z. omega arith)
+        moved-seen at g (given (met over) next) e h q = differs (E.Over (P.Between next)) (E.Moved to) q (λ z. omega arith)
         moved-seen at g (refused j p) e h q = differs (E.Refused (refusalOf j p)) (E.Moved to) q (λ z. omega arith)
 
       -- the values that are left after one, with what its body holds
@@ -354,36 +354,36 @@ module _ (level first : ℕ) (sheet₀ table₀ : List ℕ) where
           by-next (gives (just x)) e q = by-code (eqb (x .value .code) binXml) refl (eqb left 0) q
             where
               by-code : (a : Bool) → eqb (x .value .code) binXml ≡ a → (b : Bool)
-                  → pick a (pick b (E.Refused (refusalOf ninthLevel (x .value .start))) (E.Body (x .value .start) (x .size) (P.Inside place (x .rest)))) (E.Moved (P.Inside place (x .rest))) ≡ E.Moved to
+                  → pick a (pick b (E.Refused (refusalOf ninthLevel (x .value .start))) (E.Body (P.Inside place (x .rest)) (x .value .start) (x .size))) (E.Moved (P.Inside place (x .rest))) ≡ E.Moved to
                   → Goes (P.Inside place v) to n last k marks numbers sheet table
               by-code true c true q = differs (E.Refused (refusalOf ninthLevel (x .value .start))) (E.Moved to) q (λ z. omega arith)
-              by-code true c false q = differs (E.Body (x .value .start) (x .size) (P.Inside place (x .rest))) (E.Moved to) q (λ z. omega arith)
+              by-code true c false q = differs (E.Body (P.Inside place (x .rest)) (x .value .start) (x .size)) (E.Moved to) q (λ z. omega arith)
               by-code false c b q =
                   let r : P.Inside place (x .rest) ≡ to = cc in
                   subst (λ (z : Place). Goes (P.Inside place v) z n last k marks numbers sheet table) r (held-none place v g x e c, less-held place v g x e)
-          by-next (gives nothing) e q = differs (E.Ended (instanceToken place (v .at)) (P.Between (v .at))) (E.Moved to) q (λ z. omega arith)
+          by-next (gives nothing) e q = differs (E.Ended (P.Between (v .at)) (instanceToken place (v .at))) (E.Moved to) q (λ z. omega arith)
           by-next (refuses j p) e q = differs (E.Refused (refusalOf j p)) (E.Moved to) q (λ z. omega arith)
 
       -- an instance has ended: its words are put again
       pub on-ended : (place to : Place) (t : Token) (sheet′ : List ℕ) → Stands place n last k marks numbers sheet table
-          → eventAt s end f left room place ≡ E.Ended t to → sheet′ ≡ sets sheet (last * 2) (wordsAt level t)
+          → eventAt s end f left room place ≡ E.Ended to t → sheet′ ≡ sets sheet (last * 2) (wordsAt level t)
           → Goes place to n last k marks numbers sheet′ table
       on-ended (P.Between at) to t sheet′ g q c = by-seen (sightAt s end f at) q
         where
-          by-seen : (x : Answer Seen) → seenEvent room at x ≡ E.Ended t to → Goes (P.Between at) to n last k marks numbers sheet′ table
+          by-seen : (x : Answer Seen) → seenEvent room at x ≡ E.Ended to t → Goes (P.Between at) to n last k marks numbers sheet′ table
           by-seen (given (begun i) next) q = by-room room q
             where
-              by-room : (r : Bool) → tokenEvent r (instanceToken at next) (P.Inside at (valuesOf i)) ≡ E.Ended t to → Goes (P.Between at) to n last k marks numbers sheet′ table
-              by-room true q = differs (E.Token (instanceToken at next) (P.Inside at (valuesOf i))) (E.Ended t to) q (λ z. omega arith)
-              by-room false q = differs (E.Refused (refusalOf full 0)) (E.Ended t to) q (λ z. omega arith)
+              by-room : (r : Bool) → tokenEvent r (instanceToken at next) (P.Inside at (valuesOf i)) ≡ E.Ended to t → Goes (P.Between at) to n last k marks numbers sheet′ table
+              by-room true q = differs (E.Token (P.Inside at (valuesOf i)) (instanceToken at next)) (E.Ended to t) q (λ z. omega arith)
+              by-room false q = differs (E.Refused (refusalOf full 0)) (E.Ended to t) q (λ z. omega arith)
           by-seen (given (met (handed u)) next) q = by-room room q
             where
-              by-room : (r : Bool) → tokenEvent r u (P.Between next) ≡ E.Ended t to → Goes (P.Between at) to n last k marks numbers sheet′ table
-              by-room true q = differs (E.Token u (P.Between next)) (E.Ended t to) q (λ z. omega arith)
-              by-room false q = differs (E.Refused (refusalOf full 0)) (E.Ended t to) q (λ z. omega arith)
-          by-seen (given (met header) next) q = differs (E.Moved (P.Between next)) (E.Ended t to) q (λ z. omega arith)
-          by-seen (given (met over) next) q = differs (E.Over next) (E.Ended t to) q (λ z. omega arith)
-          by-seen (refused j p) q = differs (E.Refused (refusalOf j p)) (E.Ended t to) q (λ z. omega arith)
+              by-room : (r : Bool) → tokenEvent r u (P.Between next) ≡ E.Ended to t → Goes (P.Between at) to n last k marks numbers sheet′ table
+              by-room true q = differs (E.Token (P.Between next) u) (E.Ended to t) q (λ z. omega arith)
+              by-room false q = differs (E.Refused (refusalOf full 0)) (E.Ended to t) q (λ z. omega arith)
+          by-seen (given (met header) next) q = differs (E.Moved (P.Between next)) (E.Ended to t) q (λ z. omega arith)
+          by-seen (given (met over) next) q = differs (E.Over (P.Between next)) (E.Ended to t) q (λ z. omega arith)
+          by-seen (refused j p) q = differs (E.Refused (refusalOf j p)) (E.Ended to t) q (λ z. omega arith)
       on-ended (P.Inside place v) to t sheet′ g q c = by-next (nextOf s v) (next-is s v (g .stands) (g .high)) q
         where
           made : v .left ≡ 0 → t ≡ instanceToken place (v .at) → Goes (P.Inside place v) (P.Between (v .at)) n last k marks numbers sheet′ table
@@ -403,20 +403,20 @@ module _ (level first : ℕ) (sheet₀ table₀ : List ℕ) where
                 omega (arith, g .after, g .high),
               )
 
-          by-next : (x : Result (Maybe ValueNext)) → NextIs s v x → valueEvent left place v x ≡ E.Ended t to → Goes (P.Inside place v) to n last k marks numbers sheet′ table
+          by-next : (x : Result (Maybe ValueNext)) → NextIs s v x → valueEvent left place v x ≡ E.Ended to t → Goes (P.Inside place v) to n last k marks numbers sheet′ table
           by-next (gives (just x)) e q = by-code (eqb (x .value .code) binXml) (eqb left 0) q
             where
               by-code : (a b : Bool)
-                  → pick a (pick b (E.Refused (refusalOf ninthLevel (x .value .start))) (E.Body (x .value .start) (x .size) (P.Inside place (x .rest)))) (E.Moved (P.Inside place (x .rest))) ≡ E.Ended t to
+                  → pick a (pick b (E.Refused (refusalOf ninthLevel (x .value .start))) (E.Body (P.Inside place (x .rest)) (x .value .start) (x .size))) (E.Moved (P.Inside place (x .rest))) ≡ E.Ended to t
                   → Goes (P.Inside place v) to n last k marks numbers sheet′ table
-              by-code true true q = differs (E.Refused (refusalOf ninthLevel (x .value .start))) (E.Ended t to) q (λ z. omega arith)
-              by-code true false q = differs (E.Body (x .value .start) (x .size) (P.Inside place (x .rest))) (E.Ended t to) q (λ z. omega arith)
-              by-code false b q = differs (E.Moved (P.Inside place (x .rest))) (E.Ended t to) q (λ z. omega arith)
+              by-code true true q = differs (E.Refused (refusalOf ninthLevel (x .value .start))) (E.Ended to t) q (λ z. omega arith)
+              by-code true false q = differs (E.Body (P.Inside place (x .rest)) (x .value .start) (x .size)) (E.Ended to t) q (λ z. omega arith)
+              by-code false b q = differs (E.Moved (P.Inside place (x .rest))) (E.Ended to t) q (λ z. omega arith)
           by-next (gives nothing) e q =
               let r : instanceToken place (v .at) ≡ t = cc in
               let w : P.Between (v .at) ≡ to = cc in
               subst (λ (z : Place). Goes (P.Inside place v) z n last k marks numbers sheet′ table) w (made e (sym r))
-          by-next (refuses j p) e q = differs (E.Refused (refusalOf j p)) (E.Ended t to) q (λ z. omega arith)
+          by-next (refuses j p) e q = differs (E.Refused (refusalOf j p)) (E.Ended to t) q (λ z. omega arith)
 
       -- the walk's end
       pub record Ended (at : ℕ) : Type 0 where
@@ -429,23 +429,24 @@ module _ (level first : ℕ) (sheet₀ table₀ : List ℕ) where
       ended-is : (d : List Own) (at : ℕ) → prepended d (given [] at) ≡ given d at
       ended-is d at = ap (λ (l : List Own). given l at) (append-nil d)
 
-      pub on-over : (place : Place) (at : ℕ) → Stands place n last k marks numbers sheet table → eventAt s end f left room place ≡ E.Over at → Ended at
-      on-over (P.Between from) at g q = by-seen (sightAt s end f from) refl (sight-sees s end f from) q
+      pub on-over : (place to : Place) → Stands place n last k marks numbers sheet table → eventAt s end f left room place ≡ E.Over to → Ended (lastOf to)
+      on-over (P.Between from) to g q = by-seen (sightAt s end f from) refl (sight-sees s end f from) q
         where
-          by-seen : (x : Answer Seen) → sightAt s end f from ≡ x → Sees from (length s) x → seenEvent room from x ≡ E.Over at → Ended at
+          by-seen : (x : Answer Seen) → sightAt s end f from ≡ x → Sees from (length s) x → seenEvent room from x ≡ E.Over to → Ended (lastOf to)
           by-seen (given (begun i) next) e h q = by-room room q
             where
-              by-room : (r : Bool) → tokenEvent r (instanceToken from next) (P.Inside from (valuesOf i)) ≡ E.Over at → Ended at
-              by-room true q = differs (E.Token (instanceToken from next) (P.Inside from (valuesOf i))) (E.Over at) q (λ z. omega arith)
-              by-room false q = differs (E.Refused (refusalOf full 0)) (E.Over at) q (λ z. omega arith)
+              by-room : (r : Bool) → tokenEvent r (instanceToken from next) (P.Inside from (valuesOf i)) ≡ E.Over to → Ended (lastOf to)
+              by-room true q = differs (E.Token (P.Inside from (valuesOf i)) (instanceToken from next)) (E.Over to) q (λ z. omega arith)
+              by-room false q = differs (E.Refused (refusalOf full 0)) (E.Over to) q (λ z. omega arith)
           by-seen (given (met (handed u)) next) e h q = by-room room q
             where
-              by-room : (r : Bool) → tokenEvent r u (P.Between next) ≡ E.Over at → Ended at
-              by-room true q = differs (E.Token u (P.Between next)) (E.Over at) q (λ z. omega arith)
-              by-room false q = differs (E.Refused (refusalOf full 0)) (E.Over at) q (λ z. omega arith)
-          by-seen (given (met header) next) e h q = differs (E.Moved (P.Between next)) (E.Over at) q (λ z. omega arith)
+              by-room : (r : Bool) → tokenEvent r u (P.Between next) ≡ E.Over to → Ended (lastOf to)
+              by-room true q = differs (E.Token (P.Between next) u) (E.Over to) q (λ z. omega arith)
+              by-room false q = differs (E.Refused (refusalOf full 0)) (E.Over to) q (λ z. omega arith)
+          by-seen (given (met header) next) e h q = differs (E.Moved (P.Between next)) (E.Over to) q (λ z. omega arith)
           by-seen (given (met over) next) e h q =
-              let r : next ≡ at = cc in
+              let w : P.Between next ≡ to = cc in
+              let r : next ≡ lastOf to = ap lastOf w in
               record {
                 done = g .done;
                 kept = g .kept;
@@ -453,20 +454,20 @@ module _ (level first : ℕ) (sheet₀ table₀ : List ℕ) where
                 low = omega (arith, g .low, h, r);
                 short = omega (arith, g .low, g .high);
               }
-          by-seen (refused j p) e h q = differs (E.Refused (refusalOf j p)) (E.Over at) q (λ z. omega arith)
-      on-over (P.Inside place v) at g q = by-next (nextOf s v) q
+          by-seen (refused j p) e h q = differs (E.Refused (refusalOf j p)) (E.Over to) q (λ z. omega arith)
+      on-over (P.Inside place v) to g q = by-next (nextOf s v) q
         where
-          by-next : (x : Result (Maybe ValueNext)) → valueEvent left place v x ≡ E.Over at → Ended at
+          by-next : (x : Result (Maybe ValueNext)) → valueEvent left place v x ≡ E.Over to → Ended (lastOf to)
           by-next (gives (just x)) q = by-code (eqb (x .value .code) binXml) (eqb left 0) q
             where
               by-code : (a b : Bool)
-                  → pick a (pick b (E.Refused (refusalOf ninthLevel (x .value .start))) (E.Body (x .value .start) (x .size) (P.Inside place (x .rest)))) (E.Moved (P.Inside place (x .rest))) ≡ E.Over at
-                  → Ended at
-              by-code true true q = differs (E.Refused (refusalOf ninthLevel (x .value .start))) (E.Over at) q (λ z. omega arith)
-              by-code true false q = differs (E.Body (x .value .start) (x .size) (P.Inside place (x .rest))) (E.Over at) q (λ z. omega arith)
-              by-code false b q = differs (E.Moved (P.Inside place (x .rest))) (E.Over at) q (λ z. omega arith)
-          by-next (gives nothing) q = differs (E.Ended (instanceToken place (v .at)) (P.Between (v .at))) (E.Over at) q (λ z. omega arith)
-          by-next (refuses j p) q = differs (E.Refused (refusalOf j p)) (E.Over at) q (λ z. omega arith)
+                  → pick a (pick b (E.Refused (refusalOf ninthLevel (x .value .start))) (E.Body (P.Inside place (x .rest)) (x .value .start) (x .size))) (E.Moved (P.Inside place (x .rest))) ≡ E.Over to
+                  → Ended (lastOf to)
+              by-code true true q = differs (E.Refused (refusalOf ninthLevel (x .value .start))) (E.Over to) q (λ z. omega arith)
+              by-code true false q = differs (E.Body (P.Inside place (x .rest)) (x .value .start) (x .size)) (E.Over to) q (λ z. omega arith)
+              by-code false b q = differs (E.Moved (P.Inside place (x .rest))) (E.Over to) q (λ z. omega arith)
+          by-next (gives nothing) q = differs (E.Ended (P.Between (v .at)) (instanceToken place (v .at))) (E.Over to) q (λ z. omega arith)
+          by-next (refuses j p) q = differs (E.Refused (refusalOf j p)) (E.Over to) q (λ z. omega arith)
 
       -- a refusal: of the stream, or of stacks that are full where one more token is read
       abbrev pub Refusing : ℕ → ℕ → Type 0
@@ -480,19 +481,19 @@ module _ (level first : ℕ) (sheet₀ table₀ : List ℕ) where
           by-seen (given (begun i) next) e h q = by-room room refl q
             where
               by-room : (b : Bool) → room ≡ b → tokenEvent b (instanceToken at next) (P.Inside at (valuesOf i)) ≡ E.Refused r → Refusing (r .number) (r .place)
-              by-room true c q = differs (E.Token (instanceToken at next) (P.Inside at (valuesOf i))) (E.Refused r) q (λ z. omega arith)
+              by-room true c q = differs (E.Token (P.Inside at (valuesOf i)) (instanceToken at next)) (E.Refused r) q (λ z. omega arith)
               by-room false c q =
                   let z : refusalOf full 0 ≡ r = cc in
                   inl (ap (λ (y : Refusal). y .number) (sym z), c, omega (arith, g .low, h .0, h .1))
           by-seen (given (met (handed u)) next) e h q = by-room room refl q
             where
               by-room : (b : Bool) → room ≡ b → tokenEvent b u (P.Between next) ≡ E.Refused r → Refusing (r .number) (r .place)
-              by-room true c q = differs (E.Token u (P.Between next)) (E.Refused r) q (λ z. omega arith)
+              by-room true c q = differs (E.Token (P.Between next) u) (E.Refused r) q (λ z. omega arith)
               by-room false c q =
                   let z : refusalOf full 0 ≡ r = cc in
                   inl (ap (λ (y : Refusal). y .number) (sym z), c, omega (arith, g .low, h .0, h .1))
           by-seen (given (met header) next) e h q = differs (E.Moved (P.Between next)) (E.Refused r) q (λ z. omega arith)
-          by-seen (given (met over) next) e h q = differs (E.Over next) (E.Refused r) q (λ z. omega arith)
+          by-seen (given (met over) next) e h q = differs (E.Over (P.Between next)) (E.Refused r) q (λ z. omega arith)
           by-seen (refused j p) e h q =
               let z : refusalOf j p ≡ r = cc in
               inr (g .rest ∙ ap (prepended (g .done)) (nest-refused s inner end f n at j p e) ∙ ap (λ (y : Refusal). refused (y .number) (y .place)) z)
@@ -502,14 +503,14 @@ module _ (level first : ℕ) (sheet₀ table₀ : List ℕ) where
           by-next (gives (just x)) e q = by-code (eqb (x .value .code) binXml) refl (eqb left 0) refl q
             where
               by-code : (a : Bool) → eqb (x .value .code) binXml ≡ a → (b : Bool) → eqb left 0 ≡ b
-                  → pick a (pick b (E.Refused (refusalOf ninthLevel (x .value .start))) (E.Body (x .value .start) (x .size) (P.Inside place (x .rest)))) (E.Moved (P.Inside place (x .rest))) ≡ E.Refused r
+                  → pick a (pick b (E.Refused (refusalOf ninthLevel (x .value .start))) (E.Body (P.Inside place (x .rest)) (x .value .start) (x .size))) (E.Moved (P.Inside place (x .rest))) ≡ E.Refused r
                   → Refusing (r .number) (r .place)
               by-code true c true d q =
                   let z : refusalOf ninthLevel (x .value .start) ≡ r = cc in
                   inr (held-refused place v g x e ninthLevel (x .value .start) c (deep (eqb-true left 0 d) n (x .value .start) (x .size)) ∙ ap (λ (y : Refusal). refused (y .number) (y .place)) z)
-              by-code true c false d q = differs (E.Body (x .value .start) (x .size) (P.Inside place (x .rest))) (E.Refused r) q (λ z. omega arith)
+              by-code true c false d q = differs (E.Body (P.Inside place (x .rest)) (x .value .start) (x .size)) (E.Refused r) q (λ z. omega arith)
               by-code false c b d q = differs (E.Moved (P.Inside place (x .rest))) (E.Refused r) q (λ z. omega arith)
-          by-next (gives nothing) e q = differs (E.Ended (instanceToken place (v .at)) (P.Between (v .at))) (E.Refused r) q (λ z. omega arith)
+          by-next (gives nothing) e q = differs (E.Ended (P.Between (v .at)) (instanceToken place (v .at))) (E.Refused r) q (λ z. omega arith)
           by-next (refuses j p) e q =
               let z : refusalOf j p ≡ r = cc in
               inr
@@ -531,33 +532,33 @@ module _ (level first : ℕ) (sheet₀ table₀ : List ℕ) where
         pub coded : eqb (next .value .code) binXml ≡ true
         pub levels : 0 < left
 
-      pub on-body : (place to : Place) (at size : ℕ) → Stands place n last k marks numbers sheet table → eventAt s end f left room place ≡ E.Body at size to
+      pub on-body : (place to : Place) (at size : ℕ) → Stands place n last k marks numbers sheet table → eventAt s end f left room place ≡ E.Body to at size
           → Holding place to at size
       on-body (P.Between from) to at size g q = by-seen (sightAt s end f from) q
         where
-          by-seen : (x : Answer Seen) → seenEvent room from x ≡ E.Body at size to → Holding (P.Between from) to at size
+          by-seen : (x : Answer Seen) → seenEvent room from x ≡ E.Body to at size → Holding (P.Between from) to at size
           by-seen (given (begun i) next) q = by-room room q
             where
-              by-room : (r : Bool) → tokenEvent r (instanceToken from next) (P.Inside from (valuesOf i)) ≡ E.Body at size to → Holding (P.Between from) to at size
-              by-room true q = differs (E.Token (instanceToken from next) (P.Inside from (valuesOf i))) (E.Body at size to) q (λ z. omega arith)
-              by-room false q = differs (E.Refused (refusalOf full 0)) (E.Body at size to) q (λ z. omega arith)
+              by-room : (r : Bool) → tokenEvent r (instanceToken from next) (P.Inside from (valuesOf i)) ≡ E.Body to at size → Holding (P.Between from) to at size
+              by-room true q = differs (E.Token (P.Inside from (valuesOf i)) (instanceToken from next)) (E.Body to at size) q (λ z. omega arith)
+              by-room false q = differs (E.Refused (refusalOf full 0)) (E.Body to at size) q (λ z. omega arith)
           by-seen (given (met (handed u)) next) q = by-room room q
             where
-              by-room : (r : Bool) → tokenEvent r u (P.Between next) ≡ E.Body at size to → Holding (P.Between from) to at size
-              by-room true q = differs (E.Token u (P.Between next)) (E.Body at size to) q (λ z. omega arith)
-              by-room false q = differs (E.Refused (refusalOf full 0)) (E.Body at size to) q (λ z. omega arith)
-          by-seen (given (met header) next) q = differs (E.Moved (P.Between next)) (E.Body at size to) q (λ z. omega arith)
-          by-seen (given (met over) next) q = differs (E.Over next) (E.Body at size to) q (λ z. omega arith)
-          by-seen (refused j p) q = differs (E.Refused (refusalOf j p)) (E.Body at size to) q (λ z. omega arith)
+              by-room : (r : Bool) → tokenEvent r u (P.Between next) ≡ E.Body to at size → Holding (P.Between from) to at size
+              by-room true q = differs (E.Token (P.Between next) u) (E.Body to at size) q (λ z. omega arith)
+              by-room false q = differs (E.Refused (refusalOf full 0)) (E.Body to at size) q (λ z. omega arith)
+          by-seen (given (met header) next) q = differs (E.Moved (P.Between next)) (E.Body to at size) q (λ z. omega arith)
+          by-seen (given (met over) next) q = differs (E.Over (P.Between next)) (E.Body to at size) q (λ z. omega arith)
+          by-seen (refused j p) q = differs (E.Refused (refusalOf j p)) (E.Body to at size) q (λ z. omega arith)
       on-body (P.Inside place v) to at size g q = by-next (nextOf s v) (next-is s v (g .stands) (g .high)) q
         where
-          by-next : (x : Result (Maybe ValueNext)) → NextIs s v x → valueEvent left place v x ≡ E.Body at size to → Holding (P.Inside place v) to at size
+          by-next : (x : Result (Maybe ValueNext)) → NextIs s v x → valueEvent left place v x ≡ E.Body to at size → Holding (P.Inside place v) to at size
           by-next (gives (just x)) e q = by-code (eqb (x .value .code) binXml) refl (eqb left 0) refl q
             where
               by-code : (a : Bool) → eqb (x .value .code) binXml ≡ a → (b : Bool) → eqb left 0 ≡ b
-                  → pick a (pick b (E.Refused (refusalOf ninthLevel (x .value .start))) (E.Body (x .value .start) (x .size) (P.Inside place (x .rest)))) (E.Moved (P.Inside place (x .rest))) ≡ E.Body at size to
+                  → pick a (pick b (E.Refused (refusalOf ninthLevel (x .value .start))) (E.Body (P.Inside place (x .rest)) (x .value .start) (x .size))) (E.Moved (P.Inside place (x .rest))) ≡ E.Body to at size
                   → Holding (P.Inside place v) to at size
-              by-code true c true d q = differs (E.Refused (refusalOf ninthLevel (x .value .start))) (E.Body at size to) q (λ z. omega arith)
+              by-code true c true d q = differs (E.Refused (refusalOf ninthLevel (x .value .start))) (E.Body to at size) q (λ z. omega arith)
               by-code true c false d q =
                   let z = body-parts (x .value .start) at (x .size) size (P.Inside place (x .rest)) to q in
                   record {
@@ -573,9 +574,9 @@ module _ (level first : ℕ) (sheet₀ table₀ : List ℕ) where
                     coded = c;
                     levels = omega (arith, eqb-false left 0 d);
                   }
-              by-code false c b d q = differs (E.Moved (P.Inside place (x .rest))) (E.Body at size to) q (λ z. omega arith)
-          by-next (gives nothing) e q = differs (E.Ended (instanceToken place (v .at)) (P.Between (v .at))) (E.Body at size to) q (λ z. omega arith)
-          by-next (refuses j p) e q = differs (E.Refused (refusalOf j p)) (E.Body at size to) q (λ z. omega arith)
+              by-code false c b d q = differs (E.Moved (P.Inside place (x .rest))) (E.Body to at size) q (λ z. omega arith)
+          by-next (gives nothing) e q = differs (E.Ended (P.Between (v .at)) (instanceToken place (v .at))) (E.Body to at size) q (λ z. omega arith)
+          by-next (refuses j p) e q = differs (E.Refused (refusalOf j p)) (E.Body to at size) q (λ z. omega arith)
 
       module _ (place to : Place) (at size : ℕ) (h : Holding place to at size) where
         -- where its walk starts
@@ -618,25 +619,25 @@ module _ (level first : ℕ) (sheet₀ table₀ : List ℕ) where
     stands-short (P.Inside place v) n last k marks numbers sheet table g = omega (arith, g .low, g .high)
 
     -- a token is noted only where there is room for it
-    pub token-room : (left : ℕ) (room : Bool) (place to : Place) (t : Token) → eventAt s end f left room place ≡ E.Token t to → room ≡ true
+    pub token-room : (left : ℕ) (room : Bool) (place to : Place) (t : Token) → eventAt s end f left room place ≡ E.Token to t → room ≡ true
     token-room left true place to t q = refl
     token-room left false (P.Between at) to t q = by-seen (sightAt s end f at) q
       where
-        by-seen : (x : Answer Seen) → seenEvent false at x ≡ E.Token t to → false ≡ true
-        by-seen (given (begun i) next) q = differs (E.Refused (refusalOf full 0)) (E.Token t to) q (λ z. omega arith)
-        by-seen (given (met (handed u)) next) q = differs (E.Refused (refusalOf full 0)) (E.Token t to) q (λ z. omega arith)
-        by-seen (given (met header) next) q = differs (E.Moved (P.Between next)) (E.Token t to) q (λ z. omega arith)
-        by-seen (given (met over) next) q = differs (E.Over next) (E.Token t to) q (λ z. omega arith)
-        by-seen (refused j p) q = differs (E.Refused (refusalOf j p)) (E.Token t to) q (λ z. omega arith)
+        by-seen : (x : Answer Seen) → seenEvent false at x ≡ E.Token to t → false ≡ true
+        by-seen (given (begun i) next) q = differs (E.Refused (refusalOf full 0)) (E.Token to t) q (λ z. omega arith)
+        by-seen (given (met (handed u)) next) q = differs (E.Refused (refusalOf full 0)) (E.Token to t) q (λ z. omega arith)
+        by-seen (given (met header) next) q = differs (E.Moved (P.Between next)) (E.Token to t) q (λ z. omega arith)
+        by-seen (given (met over) next) q = differs (E.Over (P.Between next)) (E.Token to t) q (λ z. omega arith)
+        by-seen (refused j p) q = differs (E.Refused (refusalOf j p)) (E.Token to t) q (λ z. omega arith)
     token-room left false (P.Inside place v) to t q = by-next (nextOf s v) q
       where
-        by-next : (x : Result (Maybe ValueNext)) → valueEvent left place v x ≡ E.Token t to → false ≡ true
+        by-next : (x : Result (Maybe ValueNext)) → valueEvent left place v x ≡ E.Token to t → false ≡ true
         by-next (gives (just x)) q = by-code (eqb (x .value .code) binXml) (eqb left 0) q
           where
             by-code : (a b : Bool)
-                → pick a (pick b (E.Refused (refusalOf ninthLevel (x .value .start))) (E.Body (x .value .start) (x .size) (P.Inside place (x .rest)))) (E.Moved (P.Inside place (x .rest))) ≡ E.Token t to → false ≡ true
-            by-code true true q = differs (E.Refused (refusalOf ninthLevel (x .value .start))) (E.Token t to) q (λ z. omega arith)
-            by-code true false q = differs (E.Body (x .value .start) (x .size) (P.Inside place (x .rest))) (E.Token t to) q (λ z. omega arith)
-            by-code false b q = differs (E.Moved (P.Inside place (x .rest))) (E.Token t to) q (λ z. omega arith)
-        by-next (gives nothing) q = differs (E.Ended (instanceToken place (v .at)) (P.Between (v .at))) (E.Token t to) q (λ z. omega arith)
-        by-next (refuses j p) q = differs (E.Refused (refusalOf j p)) (E.Token t to) q (λ z. omega arith)
+                → pick a (pick b (E.Refused (refusalOf ninthLevel (x .value .start))) (E.Body (P.Inside place (x .rest)) (x .value .start) (x .size))) (E.Moved (P.Inside place (x .rest))) ≡ E.Token to t → false ≡ true
+            by-code true true q = differs (E.Refused (refusalOf ninthLevel (x .value .start))) (E.Token to t) q (λ z. omega arith)
+            by-code true false q = differs (E.Body (P.Inside place (x .rest)) (x .value .start) (x .size)) (E.Token to t) q (λ z. omega arith)
+            by-code false b q = differs (E.Moved (P.Inside place (x .rest))) (E.Token to t) q (λ z. omega arith)
+        by-next (gives nothing) q = differs (E.Ended (P.Between (v .at)) (instanceToken place (v .at))) (E.Token to t) q (λ z. omega arith)
+        by-next (refuses j p) q = differs (E.Refused (refusalOf j p)) (E.Token to t) q (λ z. omega arith)

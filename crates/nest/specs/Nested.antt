@@ -176,3 +176,13 @@ abbrev pub Nested : List ℕ → ℕ → ℕ → Flags → Both → Both → Res
 Nested s start len f lent left o =
     (judge : List ℕ → Result (List ℕ)) → ((marks : List ℕ) → Verdict marks (judge marks))
     → (o ≡ bothAnswer (bothWords (nestedOf judge s start len f)) lent) × (left ≡ bothLeft (bothWords (nestedOf judge s start len f)) lent)
+
+-- how many tokens there are, or the refusal: nothing is lent
+abbrev pub entryCount : Result (List Entry) → Result ℕ
+entryCount (gives l) = gives (length l)
+entryCount (refuses k p) = refuses k p
+
+-- What the call that counts answers: by every such judge.
+abbrev pub Counts : List ℕ → ℕ → ℕ → Flags → Result ℕ → Type 0
+Counts s start len f o =
+    (judge : List ℕ → Result (List ℕ)) → ((marks : List ℕ) → Verdict marks (judge marks)) → o ≡ entryCount (nestedOf judge s start len f)

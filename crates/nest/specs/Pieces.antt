@@ -19,7 +19,7 @@ use Rattle.tokens.specs.declared.Token.{Token}
 use Rattle.tokens.specs.declared.Values.{Values}
 use Rattle.body.specs.Reader.{verdictOn}
 use Rattle.body.specs.Verdict.{Both, bothAnswer, bothLeft}
-use Rattle.nest.specs.Nested.{ninthLevel, pastValue, deepestBody, binXml, Entry, Own, wordsAt, sheetOf, ownersOf, renumbered, windowAt, bodyAt, bothWords}
+use Rattle.nest.specs.Nested.{ninthLevel, pastValue, deepestBody, binXml, Entry, Own, wordsAt, sheetOf, ownersOf, renumbered, windowAt, bodyAt, bothWords, entryCount}
 use Rattle.nest.specs.declared.inner.Event.{Event}
 use Rattle.nest.specs.declared.inner.Event.the-variants as E
 use Rattle.nest.specs.declared.inner.Place.{Place}
@@ -32,29 +32,34 @@ full = 0
 abbrev pub refusalOf : ℕ → ℕ → Refusal
 refusalOf k p = record { number = k; place = p }
 
+-- where a walk stands: its position, or where the instance is whose values it reads
+abbrev pub lastOf : Place → ℕ
+lastOf (P.Between at) = at
+lastOf (P.Inside place v) = place
+
 -- an instance's token, from its place to a position
 abbrev pub instanceToken : ℕ → ℕ → Token
 instanceToken place next = tokenOf place (gist instanceKind 0 false H.Nothing) next
 
 -- a token needs a place on the stacks
 abbrev pub tokenEvent : Bool → Token → Place → Event
-tokenEvent room t to = pick room (E.Token t to) (E.Refused (refusalOf full 0))
+tokenEvent room t to = pick room (E.Token to t) (E.Refused (refusalOf full 0))
 
 abbrev pub seenEvent : Bool → ℕ → Answer Seen → Event
 seenEvent room at (given (begun i) next) = tokenEvent room (instanceToken at next) (P.Inside at (valuesOf i))
 seenEvent room at (given (met (handed t)) next) = tokenEvent room t (P.Between next)
 seenEvent room at (given (met header) next) = E.Moved (P.Between next)
-seenEvent room at (given (met over) next) = E.Over next
+seenEvent room at (given (met over) next) = E.Over (P.Between next)
 seenEvent room at (refused k p) = E.Refused (refusalOf k p)
 
 -- a value that was read
 abbrev pub heldEvent : ℕ → ℕ → ℕ → ℕ → Place → Event
 heldEvent left code start size to =
-    pick (eqb code binXml) (pick (eqb left 0) (E.Refused (refusalOf ninthLevel start)) (E.Body start size to)) (E.Moved to)
+    pick (eqb code binXml) (pick (eqb left 0) (E.Refused (refusalOf ninthLevel start)) (E.Body to start size)) (E.Moved to)
 
 abbrev pub valueEvent : ℕ → ℕ → Values → Result (Maybe ValueNext) → Event
 valueEvent left place v (gives (just x)) = heldEvent left (x .value .code) (x .value .start) (x .size) (P.Inside place (x .rest))
-valueEvent left place v (gives nothing) = E.Ended (instanceToken place (v .at)) (P.Between (v .at))
+valueEvent left place v (gives nothing) = E.Ended (P.Between (v .at)) (instanceToken place (v .at))
 valueEvent left place v (refuses k p) = E.Refused (refusalOf k p)
 
 -- what a walk meets next
@@ -139,3 +144,7 @@ pub record Noted (x : Result (List Entry)) (n : ℕ) (own owners : List ℕ) : T
   pub few : n ≤ 65536
   pub words : n * 2 ≤ length own → take (n * 2) own ≡ sheetOf entries
   pub owned : n ≤ length owners → take n owners ≡ ownersOf entries
+
+-- how many tokens there are by the reader's verdict; or that the stacks are too short
+abbrev pub CountTried : List ℕ → ℕ → Result (List Entry) → Result ℕ → Type 0
+CountTried s room x o = (FullAnswer o × (room < length s)) ⊎ (o ≡ entryCount x)

@@ -25,7 +25,7 @@ ghost use Rattle.tokens.specs.Instance.{nextOf};
 ghost use Rattle.tokens.specs.Sight.{sightAt};
 ghost use Rattle.body.specs.Reader.{verdictOn};
 ghost use Rattle.nest.specs.Nested.{pastValue, deepestBody, innerFlags, wordsAt, renumbered};
-ghost use Rattle.nest.specs.Pieces.{full, instanceToken, tokenEvent, seenEvent, heldEvent, valueEvent, eventAt, setAt, numbersTo, verdictAnswer, verdictTable, Numbered, WalkRead, windowBy};
+ghost use Rattle.nest.specs.Pieces.{full, lastOf, instanceToken, tokenEvent, seenEvent, heldEvent, valueEvent, eventAt, setAt, numbersTo, verdictAnswer, verdictTable, Numbered, WalkRead, windowBy};
 
 // Not a refusal of document 01: the stacks are full.
 pub const FULL: u8 = 0;
@@ -41,16 +41,17 @@ pub enum Place {
     Inside(usize, Values),
 }
 
-// What a walk meets next, and where it stands then.
+// What a walk meets next, and where it stands then. (The place comes first in each, and a refusal has a byte and a position as a place has:
+// the answers lie over each other, and where a byte of one lay over a position of another, a record took half as long again.)
 pub enum Event {
     // A token, or an instance's token so far, as long as its head.
-    Token(Token, Place),
+    Token(Place, Token),
     // A body, where its value starts, and its size.
-    Body(usize, usize, Place),
+    Body(Place, usize, usize),
     // An instance's token, all its values having been read.
-    Ended(Token, Place),
+    Ended(Place, Token),
     Moved(Place),
-    Over(usize),
+    Over(Place),
     Refused(Refusal),
 }
 
@@ -80,14 +81,14 @@ pub(crate) fn walk(
     let mut k: usize = 0;
     loop {
         match next(s, end, flags, left, k < marks.len(), place) {
-            Event::Token(t, to) => {
+            Event::Token(on, t) => {
                 note(marks, numbers, sheet, k, n, left, t);
                 own = n;
                 n += 1;
                 k += 1;
-                place = to;
+                place = on;
             }
-            Event::Body(at, size, to) => {
+            Event::Body(back, at, size) => {
                 match walk(
                     s,
                     at,
@@ -104,14 +105,14 @@ pub(crate) fn walk(
                 ) {
                     Counted::Count(m) => {
                         n = m;
-                        place = to;
+                        place = back;
                     }
                     Counted::Refused(r) => return Counted::Refused(r),
                 }
             }
-            Event::Ended(t, to) => {
+            Event::Ended(after, t) => {
                 put_words(sheet, own, left, t);
-                place = to;
+                place = after;
             }
             Event::Moved(to) => place = to,
             Event::Over(last) => return closed(
@@ -161,7 +162,7 @@ fn between(s: &[u8], at: usize, end: usize, flags: Flags, room: bool) -> Event
             room,
         ),
         Sight::Header(c) => Event::Moved(Place::Between(c.at)),
-        Sight::Over(c) => Event::Over(c.at),
+        Sight::Over(c) => Event::Over(Place::Between(c.at)),
         Sight::Refused(r) => Event::Refused(r),
     }
 }
@@ -170,7 +171,7 @@ fn noted(t: Token, to: Place, room: bool) -> Event
     ensures { λ r. ⌜ r ≡ tokenEvent room t to ⌝ }
 {
     if room {
-        return Event::Token(t, to);
+        return Event::Token(to, t);
     }
     Event::Refused(Refusal {
         number: FULL,
@@ -190,7 +191,7 @@ fn among(s: &[u8], at: usize, values: Values, left: u64) -> Event
             Place::Inside(at, rest),
             left,
         ),
-        NextValue::Done => Event::Ended(instance_token(at, values.at), Place::Between(values.at)),
+        NextValue::Done => Event::Ended(Place::Between(values.at), instance_token(at, values.at)),
         NextValue::Refused(r) => Event::Refused(r),
     }
 }
@@ -208,7 +209,7 @@ fn held(code: u8, start: usize, size: u16, to: Place, left: u64) -> Event
             place: start,
         });
     }
-    Event::Body(start, size as usize, to)
+    Event::Body(to, start, size as usize)
 }
 
 // An instance's token, from its place to `next`.
@@ -288,7 +289,7 @@ fn closed(
     start: usize,
     end: usize,
     inside: bool,
-    last: usize,
+    last: Place,
     k: usize,
     n: usize,
     marks: &[u8],
@@ -298,8 +299,8 @@ fn closed(
 ) -> Counted
     requires { ⌜ (k ≤ length (now marks)) × (k ≤ length (now numbers)) × (k ≤ 65536) × (k ≤ length (now words)) ⌝ }
     requires { ⌜ Numbered (now numbers) k n ⌝ }
-    ensures { λ r. ⌜ countAnswer r ≡ pick (inside && ltb end last) (refuses pastValue start) (verdictAnswer n (numbersTo k n (now (numbers .entry))) (verdictOn (take k (now (marks .entry))))) ⌝ }
-    ensures { λ _. ⌜ now (table .exit) ≡ pick (inside && ltb end last) (now (table .entry)) (verdictTable (take k (now (numbers .entry))) (numbersTo k n (now (numbers .entry))) (verdictOn (take k (now (marks .entry)))) (now (table .entry))) ⌝ }
+    ensures { λ r. ⌜ countAnswer r ≡ pick (inside && ltb end (lastOf last)) (refuses pastValue start) (verdictAnswer n (numbersTo k n (now (numbers .entry))) (verdictOn (take k (now (marks .entry))))) ⌝ }
+    ensures { λ _. ⌜ now (table .exit) ≡ pick (inside && ltb end (lastOf last)) (now (table .entry)) (verdictTable (take k (now (numbers .entry))) (numbersTo k n (now (numbers .entry))) (verdictOn (take k (now (marks .entry)))) (now (table .entry))) ⌝ }
 {
     if past(inside, end, last) {
         return Counted::Refused(Refusal {
@@ -310,12 +311,22 @@ fn closed(
     judged(k, n, marks, numbers, words, table)
 }
 
+// Where a walk stands: between tokens its position, and among values where their instance is.
+fn position(place: Place) -> usize
+    ensures { λ r. ⌜ r ≡ lastOf place ⌝ }
+{
+    match place {
+        Place::Between(at) => at,
+        Place::Inside(at, _) => at,
+    }
+}
+
 // A walk in a value has ended past it.
-fn past(inside: bool, end: usize, last: usize) -> bool
-    ensures { λ r. ⌜ r ≡ (inside && ltb end last) ⌝ }
+fn past(inside: bool, end: usize, last: Place) -> bool
+    ensures { λ r. ⌜ r ≡ (inside && ltb end (lastOf last)) ⌝ }
 {
     if inside {
-        return end < last;
+        return end < position(last);
     }
     false
 }

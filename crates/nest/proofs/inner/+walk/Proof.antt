@@ -17,7 +17,7 @@ use Rattle.tokens.specs.declared.Flags.{Flags}
 use Rattle.body.specs.Reader.{verdictOn}
 use Rattle.sheet.specs.Sheet.{markOf}
 use Rattle.nest.specs.Nested.{deepestBody, bodyAt, nestAt, wordsAt, sheetOf, ownersOf}
-use Rattle.nest.specs.Pieces.{full, eventAt, WalkRead, windowBy}
+use Rattle.nest.specs.Pieces.{full, lastOf, eventAt, WalkRead, windowBy}
 use Rattle.nest.specs.declared.inner.Place.{Place}
 use Rattle.nest.proofs.Nesting.{prepended-none}
 use Rattle.nest.proofs.Numbers.{part-length}
@@ -67,8 +67,8 @@ walk-loop-holds t c =
 walk-next-requires : (t : ℕ) → walk-lts.Need-next-requires (claims t) (walk-at t) walk.Post walk-Inv-loop walk-μ-loop
 walk-next-requires t c κs = search needs
 
-walk-enum-known-t : (t : ℕ) → walk-lts.Need-enum-known-t (claims t) (walk-at t) walk.Post walk-Inv-loop walk-μ-loop
-walk-enum-known-t t c = search needs
+walk-enum-known-on : (t : ℕ) → walk-lts.Need-enum-known-on (claims t) (walk-at t) walk.Post walk-Inv-loop walk-μ-loop
+walk-enum-known-on t c = search needs
 
 walk-note-requires : (t : ℕ) → walk-lts.Need-note-requires (claims t) (walk-at t) walk.Post walk-Inv-loop walk-μ-loop
 walk-note-requires t c κs =
@@ -76,11 +76,11 @@ walk-note-requires t c κs =
     let l = h .loop in
     let a = h .before .before .before .before .before .before .before .args in
     let p = h .before .before .before .before .before .before .before .pre in
-    let v = c .before .before .before .before .t .given in
+    let v = c .before .before .before .before .on .given in
     let e = sym (c .before .before .before .before .before .before .next .ensures) ∙ v .1 in
-    let r = ltb-true (l .k) (length (l .marks)) (standing.token-room (deepestBody - a .left) (a .first) (a .sheet .now) (a .table .now) (a .s .now) (bodyAt verdictOn (a .s .now) (a .flags .inline) (a .left)) (a .end) (a .flags) (nestAt (a .s .now) (bodyAt verdictOn (a .s .now) (a .flags .inline) (a .left)) (a .end) (a .flags) (a .first) (a .start)) (a .left) _ (l .place) (v .0 .1 .0) (v .0 .0) e) in
-    let g = standing.on-token (deepestBody - a .left) (a .first) (a .sheet .now) (a .table .now) (a .s .now) (bodyAt verdictOn (a .s .now) (a .flags .inline) (a .left)) (a .end) (a .flags) (nestAt (a .s .now) (bodyAt verdictOn (a .s .now) (a .flags .inline) (a .left)) (a .end) (a .flags) (a .first) (a .start)) (p .1 .0 .3) (l .n) (l .own) (l .k) (l .marks) (l .numbers) (l .sheet) (l .table) (a .left) _ (v .0 .0) (v .0 .1 .0) _ _ _ r (omega (arith, r, p .1 .1 .0, l .inv .1, l .inv .2)) refl refl refl (l .place) (l .inv .0) e in
-    let z = standing.stands-short (deepestBody - a .left) (a .first) (a .sheet .now) (a .table .now) (a .s .now) (bodyAt verdictOn (a .s .now) (a .flags .inline) (a .left)) (a .end) (a .flags) (nestAt (a .s .now) (bodyAt verdictOn (a .s .now) (a .flags .inline) (a .left)) (a .end) (a .flags) (a .first) (a .start)) (v .0 .1 .0) (l .n + 1) (l .n) (l .k + 1) _ _ _ (l .table) (g .0) in
+    let r = ltb-true (l .k) (length (l .marks)) (standing.token-room (deepestBody - a .left) (a .first) (a .sheet .now) (a .table .now) (a .s .now) (bodyAt verdictOn (a .s .now) (a .flags .inline) (a .left)) (a .end) (a .flags) (nestAt (a .s .now) (bodyAt verdictOn (a .s .now) (a .flags .inline) (a .left)) (a .end) (a .flags) (a .first) (a .start)) (a .left) _ (l .place) (v .0 .0) (v .0 .1 .0) e) in
+    let g = standing.on-token (deepestBody - a .left) (a .first) (a .sheet .now) (a .table .now) (a .s .now) (bodyAt verdictOn (a .s .now) (a .flags .inline) (a .left)) (a .end) (a .flags) (nestAt (a .s .now) (bodyAt verdictOn (a .s .now) (a .flags .inline) (a .left)) (a .end) (a .flags) (a .first) (a .start)) (p .1 .0 .3) (l .n) (l .own) (l .k) (l .marks) (l .numbers) (l .sheet) (l .table) (a .left) _ (v .0 .1 .0) (v .0 .0) _ _ _ r (omega (arith, r, p .1 .1 .0, l .inv .1, l .inv .2)) refl refl refl (l .place) (l .inv .0) e in
+    let z = standing.stands-short (deepestBody - a .left) (a .first) (a .sheet .now) (a .table .now) (a .s .now) (bodyAt verdictOn (a .s .now) (a .flags .inline) (a .left)) (a .end) (a .flags) (nestAt (a .s .now) (bodyAt verdictOn (a .s .now) (a .flags .inline) (a .left)) (a .end) (a .flags) (a .first) (a .start)) (v .0 .0) (l .n + 1) (l .n) (l .k + 1) _ _ _ (l .table) (g .0) in
     (r, omega (arith, r, p .1 .1 .0, l .inv .1, l .inv .2), omega (arith, z, (p .1 .0 .3)), p .1 .0 .0)
 
 walk-add-n : (t : ℕ) → walk-lts.Need-add-n (claims t) (walk-at t) walk.Post walk-Inv-loop walk-μ-loop
@@ -89,7 +89,7 @@ walk-add-n t c =
     let l = h .loop in
     let a = h .before .before .before .before .before .before .before .args in
     let p = h .before .before .before .before .before .before .before .pre in
-    let v = c .before .before .before .before .before .before .before .before .before .before .before .t .given in
+    let v = c .before .before .before .before .before .before .before .before .before .before .before .on .given in
     let e = sym (c .before .before .before .before .before .before .before .before .before .before .before .before .before .next .ensures) ∙ v .1 in
     omega (arith, standing.stands-short (deepestBody - a .left) (a .first) (a .sheet .now) (a .table .now) (a .s .now) (bodyAt verdictOn (a .s .now) (a .flags .inline) (a .left)) (a .end) (a .flags) (nestAt (a .s .now) (bodyAt verdictOn (a .s .now) (a .flags .inline) (a .left)) (a .end) (a .flags) (a .first) (a .start)) (l .place) (l .n) (l .own) (l .k) (l .marks) (l .numbers) (l .sheet) (l .table) (l .inv .0), (p .1 .0 .3))
 
@@ -99,7 +99,7 @@ walk-add-k t c =
     let l = h .loop in
     let a = h .before .before .before .before .before .before .before .args in
     let p = h .before .before .before .before .before .before .before .pre in
-    let v = c .before .before .before .before .before .before .before .before .before .before .before .t .given in
+    let v = c .before .before .before .before .before .before .before .before .before .before .before .on .given in
     let e = sym (c .before .before .before .before .before .before .before .before .before .before .before .before .before .next .ensures) ∙ v .1 in
     omega (arith, standing.stands-short (deepestBody - a .left) (a .first) (a .sheet .now) (a .table .now) (a .s .now) (bodyAt verdictOn (a .s .now) (a .flags .inline) (a .left)) (a .end) (a .flags) (nestAt (a .s .now) (bodyAt verdictOn (a .s .now) (a .flags .inline) (a .left)) (a .end) (a .flags) (a .first) (a .start)) (l .place) (l .n) (l .own) (l .k) (l .marks) (l .numbers) (l .sheet) (l .table) (l .inv .0), standing.stands-few (deepestBody - a .left) (a .first) (a .sheet .now) (a .table .now) (a .s .now) (bodyAt verdictOn (a .s .now) (a .flags .inline) (a .left)) (a .end) (a .flags) (nestAt (a .s .now) (bodyAt verdictOn (a .s .now) (a .flags .inline) (a .left)) (a .end) (a .flags) (a .first) (a .start)) (l .place) (l .n) (l .own) (l .k) (l .marks) (l .numbers) (l .sheet) (l .table) (l .inv .0), (p .1 .0 .3))
 
@@ -109,11 +109,11 @@ walk-loop-less t c =
     let l = h .loop in
     let a = h .before .before .before .before .before .before .before .args in
     let p = h .before .before .before .before .before .before .before .pre in
-    let v = c .before .before .before .before .before .before .before .before .before .before .before .t .given in
+    let v = c .before .before .before .before .before .before .before .before .before .before .before .on .given in
     let e = sym (c .before .before .before .before .before .before .before .before .before .before .before .before .before .next .ensures) ∙ v .1 in
-    let r = ltb-true (l .k) (length (l .marks)) (standing.token-room (deepestBody - a .left) (a .first) (a .sheet .now) (a .table .now) (a .s .now) (bodyAt verdictOn (a .s .now) (a .flags .inline) (a .left)) (a .end) (a .flags) (nestAt (a .s .now) (bodyAt verdictOn (a .s .now) (a .flags .inline) (a .left)) (a .end) (a .flags) (a .first) (a .start)) (a .left) _ (l .place) (v .0 .1 .0) (v .0 .0) e) in
+    let r = ltb-true (l .k) (length (l .marks)) (standing.token-room (deepestBody - a .left) (a .first) (a .sheet .now) (a .table .now) (a .s .now) (bodyAt verdictOn (a .s .now) (a .flags .inline) (a .left)) (a .end) (a .flags) (nestAt (a .s .now) (bodyAt verdictOn (a .s .now) (a .flags .inline) (a .left)) (a .end) (a .flags) (a .first) (a .start)) (a .left) _ (l .place) (v .0 .0) (v .0 .1 .0) e) in
     let E = c .before .before .before .before .before .before .note .ensures in
-    let g = standing.on-token (deepestBody - a .left) (a .first) (a .sheet .now) (a .table .now) (a .s .now) (bodyAt verdictOn (a .s .now) (a .flags .inline) (a .left)) (a .end) (a .flags) (nestAt (a .s .now) (bodyAt verdictOn (a .s .now) (a .flags .inline) (a .left)) (a .end) (a .flags) (a .first) (a .start)) (p .1 .0 .3) (l .n) (l .own) (l .k) (l .marks) (l .numbers) (l .sheet) (l .table) (a .left) _ (v .0 .0) (v .0 .1 .0) _ _ _ r (omega (arith, r, p .1 .1 .0, l .inv .1, l .inv .2)) (E .0) (E .1 .0) (E .1 .1) (l .place) (l .inv .0) e in
+    let g = standing.on-token (deepestBody - a .left) (a .first) (a .sheet .now) (a .table .now) (a .s .now) (bodyAt verdictOn (a .s .now) (a .flags .inline) (a .left)) (a .end) (a .flags) (nestAt (a .s .now) (bodyAt verdictOn (a .s .now) (a .flags .inline) (a .left)) (a .end) (a .flags) (a .first) (a .start)) (p .1 .0 .3) (l .n) (l .own) (l .k) (l .marks) (l .numbers) (l .sheet) (l .table) (a .left) _ (v .0 .1 .0) (v .0 .0) _ _ _ r (omega (arith, r, p .1 .1 .0, l .inv .1, l .inv .2)) (E .0) (E .1 .0) (E .1 .1) (l .place) (l .inv .0) e in
     g .1
 
 walk-loop-again : (t : ℕ) → walk-lts.Need-loop-again (claims t) (walk-at t) walk.Post walk-Inv-loop walk-μ-loop
@@ -122,16 +122,16 @@ walk-loop-again t c =
     let l = h .loop in
     let a = h .before .before .before .before .before .before .before .args in
     let p = h .before .before .before .before .before .before .before .pre in
-    let v = c .before .before .before .before .before .before .before .before .before .before .before .t .given in
+    let v = c .before .before .before .before .before .before .before .before .before .before .before .on .given in
     let e = sym (c .before .before .before .before .before .before .before .before .before .before .before .before .before .next .ensures) ∙ v .1 in
-    let r = ltb-true (l .k) (length (l .marks)) (standing.token-room (deepestBody - a .left) (a .first) (a .sheet .now) (a .table .now) (a .s .now) (bodyAt verdictOn (a .s .now) (a .flags .inline) (a .left)) (a .end) (a .flags) (nestAt (a .s .now) (bodyAt verdictOn (a .s .now) (a .flags .inline) (a .left)) (a .end) (a .flags) (a .first) (a .start)) (a .left) _ (l .place) (v .0 .1 .0) (v .0 .0) e) in
+    let r = ltb-true (l .k) (length (l .marks)) (standing.token-room (deepestBody - a .left) (a .first) (a .sheet .now) (a .table .now) (a .s .now) (bodyAt verdictOn (a .s .now) (a .flags .inline) (a .left)) (a .end) (a .flags) (nestAt (a .s .now) (bodyAt verdictOn (a .s .now) (a .flags .inline) (a .left)) (a .end) (a .flags) (a .first) (a .start)) (a .left) _ (l .place) (v .0 .0) (v .0 .1 .0) e) in
     let E = c .before .before .before .before .before .before .note .ensures in
-    let g = standing.on-token (deepestBody - a .left) (a .first) (a .sheet .now) (a .table .now) (a .s .now) (bodyAt verdictOn (a .s .now) (a .flags .inline) (a .left)) (a .end) (a .flags) (nestAt (a .s .now) (bodyAt verdictOn (a .s .now) (a .flags .inline) (a .left)) (a .end) (a .flags) (a .first) (a .start)) (p .1 .0 .3) (l .n) (l .own) (l .k) (l .marks) (l .numbers) (l .sheet) (l .table) (a .left) _ (v .0 .0) (v .0 .1 .0) _ _ _ r (omega (arith, r, p .1 .1 .0, l .inv .1, l .inv .2)) (E .0) (E .1 .0) (E .1 .1) (l .place) (l .inv .0) e in
-    let m = ap length (E .0) ∙ length-set (l .marks) (l .k) (markOf (v .0 .0)) in
-    (g .0, m ∙ l .inv .1, ap length (E .1 .0) ∙ length-set (l .numbers) (l .k) (l .n) ∙ l .inv .2, l .inv .3, ap length (E .1 .1) ∙ length-sets (l .sheet) (l .n * 2) (wordsAt (deepestBody - a .left) (v .0 .0)) ∙ l .inv .4, l .inv .5, omega (arith, r, m), omega arith)
+    let g = standing.on-token (deepestBody - a .left) (a .first) (a .sheet .now) (a .table .now) (a .s .now) (bodyAt verdictOn (a .s .now) (a .flags .inline) (a .left)) (a .end) (a .flags) (nestAt (a .s .now) (bodyAt verdictOn (a .s .now) (a .flags .inline) (a .left)) (a .end) (a .flags) (a .first) (a .start)) (p .1 .0 .3) (l .n) (l .own) (l .k) (l .marks) (l .numbers) (l .sheet) (l .table) (a .left) _ (v .0 .1 .0) (v .0 .0) _ _ _ r (omega (arith, r, p .1 .1 .0, l .inv .1, l .inv .2)) (E .0) (E .1 .0) (E .1 .1) (l .place) (l .inv .0) e in
+    let m = ap length (E .0) ∙ length-set (l .marks) (l .k) (markOf (v .0 .1 .0)) in
+    (g .0, m ∙ l .inv .1, ap length (E .1 .0) ∙ length-set (l .numbers) (l .k) (l .n) ∙ l .inv .2, l .inv .3, ap length (E .1 .1) ∙ length-sets (l .sheet) (l .n * 2) (wordsAt (deepestBody - a .left) (v .0 .1 .0)) ∙ l .inv .4, l .inv .5, omega (arith, r, m), omega arith)
 
-walk-enum-known-at : (t : ℕ) → walk-lts.Need-enum-known-at (claims t) (walk-at t) walk.Post walk-Inv-loop walk-μ-loop
-walk-enum-known-at t c = search needs
+walk-enum-known-back : (t : ℕ) → walk-lts.Need-enum-known-back (claims t) (walk-at t) walk.Post walk-Inv-loop walk-μ-loop
+walk-enum-known-back t c = search needs
 
 walk-add-walk : (t : ℕ) → walk-lts.Need-add-walk (claims t) (walk-at t) walk.Post walk-Inv-loop walk-μ-loop
 walk-add-walk t c =
@@ -139,10 +139,10 @@ walk-add-walk t c =
     let l = h .loop in
     let a = h .before .before .before .before .before .before .before .args in
     let p = h .before .before .before .before .before .before .before .pre in
-    let v = c .before .at .given in
+    let v = c .before .back .given in
     let e = sym (c .before .before .before .next .ensures) ∙ v .1 in
-    let b = standing.on-body (deepestBody - a .left) (a .first) (a .sheet .now) (a .table .now) (a .s .now) (bodyAt verdictOn (a .s .now) (a .flags .inline) (a .left)) (a .end) (a .flags) (nestAt (a .s .now) (bodyAt verdictOn (a .s .now) (a .flags .inline) (a .left)) (a .end) (a .flags) (a .first) (a .start)) (p .1 .0 .3) (l .n) (l .own) (l .k) (l .marks) (l .numbers) (l .sheet) (l .table) (a .left) _ (l .place) (v .0 .1 .1 .0) (v .0 .0) (v .0 .1 .0) (l .inv .0) e in
-    let z = standing.body-starts (deepestBody - a .left) (a .first) (a .sheet .now) (a .table .now) (a .s .now) (bodyAt verdictOn (a .s .now) (a .flags .inline) (a .left)) (a .end) (a .flags) (nestAt (a .s .now) (bodyAt verdictOn (a .s .now) (a .flags .inline) (a .left)) (a .end) (a .flags) (a .first) (a .start)) (p .1 .0 .3) (l .n) (l .own) (l .k) (l .marks) (l .numbers) (l .sheet) (l .table) (a .left) _ (l .place) (v .0 .1 .1 .0) (v .0 .0) (v .0 .1 .0) b in
+    let b = standing.on-body (deepestBody - a .left) (a .first) (a .sheet .now) (a .table .now) (a .s .now) (bodyAt verdictOn (a .s .now) (a .flags .inline) (a .left)) (a .end) (a .flags) (nestAt (a .s .now) (bodyAt verdictOn (a .s .now) (a .flags .inline) (a .left)) (a .end) (a .flags) (a .first) (a .start)) (p .1 .0 .3) (l .n) (l .own) (l .k) (l .marks) (l .numbers) (l .sheet) (l .table) (a .left) _ (l .place) (v .0 .0) (v .0 .1 .0) (v .0 .1 .1 .0) (l .inv .0) e in
+    let z = standing.body-starts (deepestBody - a .left) (a .first) (a .sheet .now) (a .table .now) (a .s .now) (bodyAt verdictOn (a .s .now) (a .flags .inline) (a .left)) (a .end) (a .flags) (nestAt (a .s .now) (bodyAt verdictOn (a .s .now) (a .flags .inline) (a .left)) (a .end) (a .flags) (a .first) (a .start)) (p .1 .0 .3) (l .n) (l .own) (l .k) (l .marks) (l .numbers) (l .sheet) (l .table) (a .left) _ (l .place) (v .0 .0) (v .0 .1 .0) (v .0 .1 .1 .0) b in
     omega (arith, z .2, (p .1 .0 .3))
 
 walk-without-dependencies-requires : (t : ℕ) → walk-lts.Need-without-dependencies-requires (claims t) (walk-at t) walk.Post walk-Inv-loop walk-μ-loop
@@ -154,10 +154,10 @@ walk-sub-walk t c =
     let l = h .loop in
     let a = h .before .before .before .before .before .before .before .args in
     let p = h .before .before .before .before .before .before .before .pre in
-    let v = c .before .before .at .given in
+    let v = c .before .before .back .given in
     let e = sym (c .before .before .before .before .next .ensures) ∙ v .1 in
-    let b = standing.on-body (deepestBody - a .left) (a .first) (a .sheet .now) (a .table .now) (a .s .now) (bodyAt verdictOn (a .s .now) (a .flags .inline) (a .left)) (a .end) (a .flags) (nestAt (a .s .now) (bodyAt verdictOn (a .s .now) (a .flags .inline) (a .left)) (a .end) (a .flags) (a .first) (a .start)) (p .1 .0 .3) (l .n) (l .own) (l .k) (l .marks) (l .numbers) (l .sheet) (l .table) (a .left) _ (l .place) (v .0 .1 .1 .0) (v .0 .0) (v .0 .1 .0) (l .inv .0) e in
-    let z = standing.body-starts (deepestBody - a .left) (a .first) (a .sheet .now) (a .table .now) (a .s .now) (bodyAt verdictOn (a .s .now) (a .flags .inline) (a .left)) (a .end) (a .flags) (nestAt (a .s .now) (bodyAt verdictOn (a .s .now) (a .flags .inline) (a .left)) (a .end) (a .flags) (a .first) (a .start)) (p .1 .0 .3) (l .n) (l .own) (l .k) (l .marks) (l .numbers) (l .sheet) (l .table) (a .left) _ (l .place) (v .0 .1 .1 .0) (v .0 .0) (v .0 .1 .0) b in
+    let b = standing.on-body (deepestBody - a .left) (a .first) (a .sheet .now) (a .table .now) (a .s .now) (bodyAt verdictOn (a .s .now) (a .flags .inline) (a .left)) (a .end) (a .flags) (nestAt (a .s .now) (bodyAt verdictOn (a .s .now) (a .flags .inline) (a .left)) (a .end) (a .flags) (a .first) (a .start)) (p .1 .0 .3) (l .n) (l .own) (l .k) (l .marks) (l .numbers) (l .sheet) (l .table) (a .left) _ (l .place) (v .0 .0) (v .0 .1 .0) (v .0 .1 .1 .0) (l .inv .0) e in
+    let z = standing.body-starts (deepestBody - a .left) (a .first) (a .sheet .now) (a .table .now) (a .s .now) (bodyAt verdictOn (a .s .now) (a .flags .inline) (a .left)) (a .end) (a .flags) (nestAt (a .s .now) (bodyAt verdictOn (a .s .now) (a .flags .inline) (a .left)) (a .end) (a .flags) (a .first) (a .start)) (p .1 .0 .3) (l .n) (l .own) (l .k) (l .marks) (l .numbers) (l .sheet) (l .table) (a .left) _ (l .place) (v .0 .0) (v .0 .1 .0) (v .0 .1 .1 .0) b in
     omega (arith, b .levels)
 
 walk-sub-walk-2 : (t : ℕ) → walk-lts.Need-sub-walk-2 (claims t) (walk-at t) walk.Post walk-Inv-loop walk-μ-loop
@@ -187,10 +187,10 @@ walk-walk-requires t c κs =
     let l = h .loop in
     let a = h .before .before .before .before .before .before .before .args in
     let p = h .before .before .before .before .before .before .before .pre in
-    let v = c .before .before .before .before .before .before .before .at .given in
+    let v = c .before .before .before .before .before .before .before .back .given in
     let e = sym (c .before .before .before .before .before .before .before .before .before .next .ensures) ∙ v .1 in
-    let b = standing.on-body (deepestBody - a .left) (a .first) (a .sheet .now) (a .table .now) (a .s .now) (bodyAt verdictOn (a .s .now) (a .flags .inline) (a .left)) (a .end) (a .flags) (nestAt (a .s .now) (bodyAt verdictOn (a .s .now) (a .flags .inline) (a .left)) (a .end) (a .flags) (a .first) (a .start)) (p .1 .0 .3) (l .n) (l .own) (l .k) (l .marks) (l .numbers) (l .sheet) (l .table) (a .left) _ (l .place) (v .0 .1 .1 .0) (v .0 .0) (v .0 .1 .0) (l .inv .0) e in
-    let z = standing.body-starts (deepestBody - a .left) (a .first) (a .sheet .now) (a .table .now) (a .s .now) (bodyAt verdictOn (a .s .now) (a .flags .inline) (a .left)) (a .end) (a .flags) (nestAt (a .s .now) (bodyAt verdictOn (a .s .now) (a .flags .inline) (a .left)) (a .end) (a .flags) (a .first) (a .start)) (p .1 .0 .3) (l .n) (l .own) (l .k) (l .marks) (l .numbers) (l .sheet) (l .table) (a .left) _ (l .place) (v .0 .1 .1 .0) (v .0 .0) (v .0 .1 .0) b in
+    let b = standing.on-body (deepestBody - a .left) (a .first) (a .sheet .now) (a .table .now) (a .s .now) (bodyAt verdictOn (a .s .now) (a .flags .inline) (a .left)) (a .end) (a .flags) (nestAt (a .s .now) (bodyAt verdictOn (a .s .now) (a .flags .inline) (a .left)) (a .end) (a .flags) (a .first) (a .start)) (p .1 .0 .3) (l .n) (l .own) (l .k) (l .marks) (l .numbers) (l .sheet) (l .table) (a .left) _ (l .place) (v .0 .0) (v .0 .1 .0) (v .0 .1 .1 .0) (l .inv .0) e in
+    let z = standing.body-starts (deepestBody - a .left) (a .first) (a .sheet .now) (a .table .now) (a .s .now) (bodyAt verdictOn (a .s .now) (a .flags .inline) (a .left)) (a .end) (a .flags) (nestAt (a .s .now) (bodyAt verdictOn (a .s .now) (a .flags .inline) (a .left)) (a .end) (a .flags) (a .first) (a .start)) (p .1 .0 .3) (l .n) (l .own) (l .k) (l .marks) (l .numbers) (l .sheet) (l .table) (a .left) _ (l .place) (v .0 .0) (v .0 .1 .0) (v .0 .1 .1 .0) b in
     let m = part-length (l .marks) (l .k) in
     let n = part-length (l .numbers) (l .k) in
     (omega (arith, p .0, b .levels), ((omega (arith, p .1 .0 .0), z .0, z .1, (p .1 .0 .3)), (omega (arith, m, n, l .inv .1, l .inv .2, p .1 .1 .0), omega (arith, m, l .inv .1, l .inv .3, p .1 .1 .1))))
@@ -204,15 +204,15 @@ walk-loop-less-2 t c =
     let l = h .loop in
     let a = h .before .before .before .before .before .before .before .args in
     let p = h .before .before .before .before .before .before .before .pre in
-    let v = c .before .before .before .before .before .before .before .before .before .before .before .before .before .before .before .before .before .before .before .before .before .at .given in
+    let v = c .before .before .before .before .before .before .before .before .before .before .before .before .before .before .before .before .before .before .before .before .before .back .given in
     let e = sym (c .before .before .before .before .before .before .before .before .before .before .before .before .before .before .before .before .before .before .before .before .before .before .before .next .ensures) ∙ v .1 in
-    let b = standing.on-body (deepestBody - a .left) (a .first) (a .sheet .now) (a .table .now) (a .s .now) (bodyAt verdictOn (a .s .now) (a .flags .inline) (a .left)) (a .end) (a .flags) (nestAt (a .s .now) (bodyAt verdictOn (a .s .now) (a .flags .inline) (a .left)) (a .end) (a .flags) (a .first) (a .start)) (p .1 .0 .3) (l .n) (l .own) (l .k) (l .marks) (l .numbers) (l .sheet) (l .table) (a .left) _ (l .place) (v .0 .1 .1 .0) (v .0 .0) (v .0 .1 .0) (l .inv .0) e in
-    let z = standing.body-starts (deepestBody - a .left) (a .first) (a .sheet .now) (a .table .now) (a .s .now) (bodyAt verdictOn (a .s .now) (a .flags .inline) (a .left)) (a .end) (a .flags) (nestAt (a .s .now) (bodyAt verdictOn (a .s .now) (a .flags .inline) (a .left)) (a .end) (a .flags) (a .first) (a .start)) (p .1 .0 .3) (l .n) (l .own) (l .k) (l .marks) (l .numbers) (l .sheet) (l .table) (a .left) _ (l .place) (v .0 .1 .1 .0) (v .0 .0) (v .0 .1 .0) b in
+    let b = standing.on-body (deepestBody - a .left) (a .first) (a .sheet .now) (a .table .now) (a .s .now) (bodyAt verdictOn (a .s .now) (a .flags .inline) (a .left)) (a .end) (a .flags) (nestAt (a .s .now) (bodyAt verdictOn (a .s .now) (a .flags .inline) (a .left)) (a .end) (a .flags) (a .first) (a .start)) (p .1 .0 .3) (l .n) (l .own) (l .k) (l .marks) (l .numbers) (l .sheet) (l .table) (a .left) _ (l .place) (v .0 .0) (v .0 .1 .0) (v .0 .1 .1 .0) (l .inv .0) e in
+    let z = standing.body-starts (deepestBody - a .left) (a .first) (a .sheet .now) (a .table .now) (a .s .now) (bodyAt verdictOn (a .s .now) (a .flags .inline) (a .left)) (a .end) (a .flags) (nestAt (a .s .now) (bodyAt verdictOn (a .s .now) (a .flags .inline) (a .left)) (a .end) (a .flags) (a .first) (a .start)) (p .1 .0 .3) (l .n) (l .own) (l .k) (l .marks) (l .numbers) (l .sheet) (l .table) (a .left) _ (l .place) (v .0 .0) (v .0 .1 .0) (v .0 .1 .1 .0) b in
     let x =
-    closing.body-is (a .s .now) (a .flags .inline) (a .left) (l .n) (v .0 .0) (v .0 .1 .0) (b .levels)
-    ∙ ap (λ (f : Flags). windowBy (a .s .now) (a .left - 1) true f (l .n) (v .0 .0) (v .0 .0 + v .0 .1 .0)) (sym (c .before .before .before .before .before .before .before .before .before .before .before .before .before .before .before .before .before .before .before .without-dependencies .ensures)) in
+    closing.body-is (a .s .now) (a .flags .inline) (a .left) (l .n) (v .0 .1 .0) (v .0 .1 .1 .0) (b .levels)
+    ∙ ap (λ (f : Flags). windowBy (a .s .now) (a .left - 1) true f (l .n) (v .0 .1 .0) (v .0 .1 .0 + v .0 .1 .1 .0)) (sym (c .before .before .before .before .before .before .before .before .before .before .before .before .before .before .before .before .before .before .before .without-dependencies .ensures)) in
     let w = subst (WalkRead _ _ _ _ _ _ _ _ _ _) (ap countAnswer (c .before .m .given .1)) (c .before .before .before .before .before .before .before .before .before .before .before .before .before .walk .ensures) in
-    let g = standing.body-read (deepestBody - a .left) (a .first) (a .sheet .now) (a .table .now) (a .s .now) (bodyAt verdictOn (a .s .now) (a .flags .inline) (a .left)) (a .end) (a .flags) (nestAt (a .s .now) (bodyAt verdictOn (a .s .now) (a .flags .inline) (a .left)) (a .end) (a .flags) (a .first) (a .start)) (p .1 .0 .3) (l .n) (l .own) (l .k) (l .marks) (l .numbers) (l .sheet) (l .table) (a .left) _ (l .place) (v .0 .1 .1 .0) (v .0 .0) (v .0 .1 .0) b (w .0 .entries) _ (l .marks) (l .numbers) (sets (l .sheet) (l .n * 2) (sheetOf (w .0 .entries))) (sets (l .table) (l .n) (ownersOf (w .0 .entries))) (x ∙ w .0 .holds) (w .0 .count) (w .1 refl) refl refl refl refl in
+    let g = standing.body-read (deepestBody - a .left) (a .first) (a .sheet .now) (a .table .now) (a .s .now) (bodyAt verdictOn (a .s .now) (a .flags .inline) (a .left)) (a .end) (a .flags) (nestAt (a .s .now) (bodyAt verdictOn (a .s .now) (a .flags .inline) (a .left)) (a .end) (a .flags) (a .first) (a .start)) (p .1 .0 .3) (l .n) (l .own) (l .k) (l .marks) (l .numbers) (l .sheet) (l .table) (a .left) _ (l .place) (v .0 .0) (v .0 .1 .0) (v .0 .1 .1 .0) b (w .0 .entries) _ (l .marks) (l .numbers) (sets (l .sheet) (l .n * 2) (sheetOf (w .0 .entries))) (sets (l .table) (l .n) (ownersOf (w .0 .entries))) (x ∙ w .0 .holds) (w .0 .count) (w .1 refl) refl refl refl refl in
     g .1
 
 walk-loop-again-2 : (t : ℕ) → walk-lts.Need-loop-again-2 (claims t) (walk-at t) walk.Post walk-Inv-loop walk-μ-loop
@@ -221,15 +221,15 @@ walk-loop-again-2 t c =
     let l = h .loop in
     let a = h .before .before .before .before .before .before .before .args in
     let p = h .before .before .before .before .before .before .before .pre in
-    let v = c .before .before .before .before .before .before .before .before .before .before .before .before .before .before .before .before .before .before .before .before .before .at .given in
+    let v = c .before .before .before .before .before .before .before .before .before .before .before .before .before .before .before .before .before .before .before .before .before .back .given in
     let e = sym (c .before .before .before .before .before .before .before .before .before .before .before .before .before .before .before .before .before .before .before .before .before .before .before .next .ensures) ∙ v .1 in
-    let b = standing.on-body (deepestBody - a .left) (a .first) (a .sheet .now) (a .table .now) (a .s .now) (bodyAt verdictOn (a .s .now) (a .flags .inline) (a .left)) (a .end) (a .flags) (nestAt (a .s .now) (bodyAt verdictOn (a .s .now) (a .flags .inline) (a .left)) (a .end) (a .flags) (a .first) (a .start)) (p .1 .0 .3) (l .n) (l .own) (l .k) (l .marks) (l .numbers) (l .sheet) (l .table) (a .left) _ (l .place) (v .0 .1 .1 .0) (v .0 .0) (v .0 .1 .0) (l .inv .0) e in
-    let z = standing.body-starts (deepestBody - a .left) (a .first) (a .sheet .now) (a .table .now) (a .s .now) (bodyAt verdictOn (a .s .now) (a .flags .inline) (a .left)) (a .end) (a .flags) (nestAt (a .s .now) (bodyAt verdictOn (a .s .now) (a .flags .inline) (a .left)) (a .end) (a .flags) (a .first) (a .start)) (p .1 .0 .3) (l .n) (l .own) (l .k) (l .marks) (l .numbers) (l .sheet) (l .table) (a .left) _ (l .place) (v .0 .1 .1 .0) (v .0 .0) (v .0 .1 .0) b in
+    let b = standing.on-body (deepestBody - a .left) (a .first) (a .sheet .now) (a .table .now) (a .s .now) (bodyAt verdictOn (a .s .now) (a .flags .inline) (a .left)) (a .end) (a .flags) (nestAt (a .s .now) (bodyAt verdictOn (a .s .now) (a .flags .inline) (a .left)) (a .end) (a .flags) (a .first) (a .start)) (p .1 .0 .3) (l .n) (l .own) (l .k) (l .marks) (l .numbers) (l .sheet) (l .table) (a .left) _ (l .place) (v .0 .0) (v .0 .1 .0) (v .0 .1 .1 .0) (l .inv .0) e in
+    let z = standing.body-starts (deepestBody - a .left) (a .first) (a .sheet .now) (a .table .now) (a .s .now) (bodyAt verdictOn (a .s .now) (a .flags .inline) (a .left)) (a .end) (a .flags) (nestAt (a .s .now) (bodyAt verdictOn (a .s .now) (a .flags .inline) (a .left)) (a .end) (a .flags) (a .first) (a .start)) (p .1 .0 .3) (l .n) (l .own) (l .k) (l .marks) (l .numbers) (l .sheet) (l .table) (a .left) _ (l .place) (v .0 .0) (v .0 .1 .0) (v .0 .1 .1 .0) b in
     let x =
-    closing.body-is (a .s .now) (a .flags .inline) (a .left) (l .n) (v .0 .0) (v .0 .1 .0) (b .levels)
-    ∙ ap (λ (f : Flags). windowBy (a .s .now) (a .left - 1) true f (l .n) (v .0 .0) (v .0 .0 + v .0 .1 .0)) (sym (c .before .before .before .before .before .before .before .before .before .before .before .before .before .before .before .before .before .before .before .without-dependencies .ensures)) in
+    closing.body-is (a .s .now) (a .flags .inline) (a .left) (l .n) (v .0 .1 .0) (v .0 .1 .1 .0) (b .levels)
+    ∙ ap (λ (f : Flags). windowBy (a .s .now) (a .left - 1) true f (l .n) (v .0 .1 .0) (v .0 .1 .0 + v .0 .1 .1 .0)) (sym (c .before .before .before .before .before .before .before .before .before .before .before .before .before .before .before .before .before .before .before .without-dependencies .ensures)) in
     let w = subst (WalkRead _ _ _ _ _ _ _ _ _ _) (ap countAnswer (c .before .m .given .1)) (c .before .before .before .before .before .before .before .before .before .before .before .before .before .walk .ensures) in
-    let g = standing.body-read (deepestBody - a .left) (a .first) (a .sheet .now) (a .table .now) (a .s .now) (bodyAt verdictOn (a .s .now) (a .flags .inline) (a .left)) (a .end) (a .flags) (nestAt (a .s .now) (bodyAt verdictOn (a .s .now) (a .flags .inline) (a .left)) (a .end) (a .flags) (a .first) (a .start)) (p .1 .0 .3) (l .n) (l .own) (l .k) (l .marks) (l .numbers) (l .sheet) (l .table) (a .left) _ (l .place) (v .0 .1 .1 .0) (v .0 .0) (v .0 .1 .0) b (w .0 .entries) _ _ _ _ _ (x ∙ w .0 .holds) (w .0 .count) (w .1 refl) (take-at (take (l .k) (l .marks)) _ (l .k) (length-take-le (l .k) (l .marks) (l .inv .6))) (take-at (take (l .k) (l .numbers)) _ (l .k) (length-take-le (l .k) (l .numbers) (omega (arith, l .inv .6, l .inv .1, l .inv .2, p .1 .1 .0)))) (w .0 .words) (w .0 .owners) in
+    let g = standing.body-read (deepestBody - a .left) (a .first) (a .sheet .now) (a .table .now) (a .s .now) (bodyAt verdictOn (a .s .now) (a .flags .inline) (a .left)) (a .end) (a .flags) (nestAt (a .s .now) (bodyAt verdictOn (a .s .now) (a .flags .inline) (a .left)) (a .end) (a .flags) (a .first) (a .start)) (p .1 .0 .3) (l .n) (l .own) (l .k) (l .marks) (l .numbers) (l .sheet) (l .table) (a .left) _ (l .place) (v .0 .0) (v .0 .1 .0) (v .0 .1 .1 .0) b (w .0 .entries) _ _ _ _ _ (x ∙ w .0 .holds) (w .0 .count) (w .1 refl) (take-at (take (l .k) (l .marks)) _ (l .k) (length-take-le (l .k) (l .marks) (l .inv .6))) (take-at (take (l .k) (l .numbers)) _ (l .k) (length-take-le (l .k) (l .numbers) (omega (arith, l .inv .6, l .inv .1, l .inv .2, p .1 .1 .0)))) (w .0 .words) (w .0 .owners) in
     (g .0, omega (arith, c .before .before .before .before .before .before .before .before .before .before .before .before .marks2 .given, l .inv .1), search needs, search needs, search needs, search needs, omega (arith, c .before .before .before .before .before .before .before .before .before .before .before .before .marks2 .given, l .inv .6), omega (arith, w .0 .count, l .inv .7))
 
 walk-enum-known-r : (t : ℕ) → walk-lts.Need-enum-known-r (claims t) (walk-at t) walk.Post walk-Inv-loop walk-μ-loop
@@ -256,20 +256,20 @@ walk-returns t c =
     let l = h .loop in
     let a = h .before .before .before .before .before .before .before .args in
     let p = h .before .before .before .before .before .before .before .pre in
-    let v = c .before .before .before .before .before .before .before .before .before .before .before .before .before .before .before .before .before .before .before .before .before .at .given in
+    let v = c .before .before .before .before .before .before .before .before .before .before .before .before .before .before .before .before .before .before .before .before .before .back .given in
     let e = sym (c .before .before .before .before .before .before .before .before .before .before .before .before .before .before .before .before .before .before .before .before .before .before .before .next .ensures) ∙ v .1 in
-    let b = standing.on-body (deepestBody - a .left) (a .first) (a .sheet .now) (a .table .now) (a .s .now) (bodyAt verdictOn (a .s .now) (a .flags .inline) (a .left)) (a .end) (a .flags) (nestAt (a .s .now) (bodyAt verdictOn (a .s .now) (a .flags .inline) (a .left)) (a .end) (a .flags) (a .first) (a .start)) (p .1 .0 .3) (l .n) (l .own) (l .k) (l .marks) (l .numbers) (l .sheet) (l .table) (a .left) _ (l .place) (v .0 .1 .1 .0) (v .0 .0) (v .0 .1 .0) (l .inv .0) e in
-    let z = standing.body-starts (deepestBody - a .left) (a .first) (a .sheet .now) (a .table .now) (a .s .now) (bodyAt verdictOn (a .s .now) (a .flags .inline) (a .left)) (a .end) (a .flags) (nestAt (a .s .now) (bodyAt verdictOn (a .s .now) (a .flags .inline) (a .left)) (a .end) (a .flags) (a .first) (a .start)) (p .1 .0 .3) (l .n) (l .own) (l .k) (l .marks) (l .numbers) (l .sheet) (l .table) (a .left) _ (l .place) (v .0 .1 .1 .0) (v .0 .0) (v .0 .1 .0) b in
+    let b = standing.on-body (deepestBody - a .left) (a .first) (a .sheet .now) (a .table .now) (a .s .now) (bodyAt verdictOn (a .s .now) (a .flags .inline) (a .left)) (a .end) (a .flags) (nestAt (a .s .now) (bodyAt verdictOn (a .s .now) (a .flags .inline) (a .left)) (a .end) (a .flags) (a .first) (a .start)) (p .1 .0 .3) (l .n) (l .own) (l .k) (l .marks) (l .numbers) (l .sheet) (l .table) (a .left) _ (l .place) (v .0 .0) (v .0 .1 .0) (v .0 .1 .1 .0) (l .inv .0) e in
+    let z = standing.body-starts (deepestBody - a .left) (a .first) (a .sheet .now) (a .table .now) (a .s .now) (bodyAt verdictOn (a .s .now) (a .flags .inline) (a .left)) (a .end) (a .flags) (nestAt (a .s .now) (bodyAt verdictOn (a .s .now) (a .flags .inline) (a .left)) (a .end) (a .flags) (a .first) (a .start)) (p .1 .0 .3) (l .n) (l .own) (l .k) (l .marks) (l .numbers) (l .sheet) (l .table) (a .left) _ (l .place) (v .0 .0) (v .0 .1 .0) (v .0 .1 .1 .0) b in
     let x =
-    closing.body-is (a .s .now) (a .flags .inline) (a .left) (l .n) (v .0 .0) (v .0 .1 .0) (b .levels)
-    ∙ ap (λ (f : Flags). windowBy (a .s .now) (a .left - 1) true f (l .n) (v .0 .0) (v .0 .0 + v .0 .1 .0)) (sym (c .before .before .before .before .before .before .before .before .before .before .before .before .before .before .before .before .before .before .before .without-dependencies .ensures)) in
+    closing.body-is (a .s .now) (a .flags .inline) (a .left) (l .n) (v .0 .1 .0) (v .0 .1 .1 .0) (b .levels)
+    ∙ ap (λ (f : Flags). windowBy (a .s .now) (a .left - 1) true f (l .n) (v .0 .1 .0) (v .0 .1 .0 + v .0 .1 .1 .0)) (sym (c .before .before .before .before .before .before .before .before .before .before .before .before .before .before .before .before .before .before .before .without-dependencies .ensures)) in
     let w = subst (WalkRead _ _ _ _ _ _ _ _ _ _) (ap countAnswer (c .before .r .given .1)) (c .before .before .before .before .before .before .before .before .before .before .before .before .before .walk .ensures) in
     let few = standing.stands-few (deepestBody - a .left) (a .first) (a .sheet .now) (a .table .now) (a .s .now) (bodyAt verdictOn (a .s .now) (a .flags .inline) (a .left)) (a .end) (a .flags) (nestAt (a .s .now) (bodyAt verdictOn (a .s .now) (a .flags .inline) (a .left)) (a .end) (a .flags) (a .first) (a .start)) (l .place) (l .n) (l .own) (l .k) (l .marks) (l .numbers) (l .sheet) (l .table) (l .inv .0) in
     ⊎-elim (λ y. inl (y .0, omega (arith, y .1, few, part-length (l .marks) (l .k), l .inv .1, l .inv .6)))
-    (λ y. inr (closing.refused-is (deepestBody - a .left) (a .first) (a .inside) (a .start) (a .end) _ _ _ (standing.body-refused (deepestBody - a .left) (a .first) (a .sheet .now) (a .table .now) (a .s .now) (bodyAt verdictOn (a .s .now) (a .flags .inline) (a .left)) (a .end) (a .flags) (nestAt (a .s .now) (bodyAt verdictOn (a .s .now) (a .flags .inline) (a .left)) (a .end) (a .flags) (a .first) (a .start)) (p .1 .0 .3) (l .n) (l .own) (l .k) (l .marks) (l .numbers) (l .sheet) (l .table) (a .left) _ (l .place) (v .0 .1 .1 .0) (v .0 .0) (v .0 .1 .0) b _ _ (x ∙ y)))) w
+    (λ y. inr (closing.refused-is (deepestBody - a .left) (a .first) (a .inside) (a .start) (a .end) _ _ _ (standing.body-refused (deepestBody - a .left) (a .first) (a .sheet .now) (a .table .now) (a .s .now) (bodyAt verdictOn (a .s .now) (a .flags .inline) (a .left)) (a .end) (a .flags) (nestAt (a .s .now) (bodyAt verdictOn (a .s .now) (a .flags .inline) (a .left)) (a .end) (a .flags) (a .first) (a .start)) (p .1 .0 .3) (l .n) (l .own) (l .k) (l .marks) (l .numbers) (l .sheet) (l .table) (a .left) _ (l .place) (v .0 .0) (v .0 .1 .0) (v .0 .1 .1 .0) b _ _ (x ∙ y)))) w
 
-walk-enum-known-t-2 : (t : ℕ) → walk-lts.Need-enum-known-t-2 (claims t) (walk-at t) walk.Post walk-Inv-loop walk-μ-loop
-walk-enum-known-t-2 t c = search needs
+walk-enum-known-after : (t : ℕ) → walk-lts.Need-enum-known-after (claims t) (walk-at t) walk.Post walk-Inv-loop walk-μ-loop
+walk-enum-known-after t c = search needs
 
 walk-put-words-requires : (t : ℕ) → walk-lts.Need-put-words-requires (claims t) (walk-at t) walk.Post walk-Inv-loop walk-μ-loop
 walk-put-words-requires t c κs =
@@ -277,7 +277,7 @@ walk-put-words-requires t c κs =
     let l = h .loop in
     let a = h .before .before .before .before .before .before .before .args in
     let p = h .before .before .before .before .before .before .before .pre in
-    let v = c .before .before .t2 .given in
+    let v = c .before .before .after .given in
     let e = sym (c .before .before .before .before .next .ensures) ∙ v .1 in
     (omega (arith, standing.stands-short (deepestBody - a .left) (a .first) (a .sheet .now) (a .table .now) (a .s .now) (bodyAt verdictOn (a .s .now) (a .flags .inline) (a .left)) (a .end) (a .flags) (nestAt (a .s .now) (bodyAt verdictOn (a .s .now) (a .flags .inline) (a .left)) (a .end) (a .flags) (a .first) (a .start)) (l .place) (l .n) (l .own) (l .k) (l .marks) (l .numbers) (l .sheet) (l .table) (l .inv .0), l .inv .7, (p .1 .0 .3)), p .1 .0 .0)
 
@@ -287,9 +287,9 @@ walk-loop-less-3 t c =
     let l = h .loop in
     let a = h .before .before .before .before .before .before .before .args in
     let p = h .before .before .before .before .before .before .before .pre in
-    let v = c .before .before .before .before .before .t2 .given in
+    let v = c .before .before .before .before .before .after .given in
     let e = sym (c .before .before .before .before .before .before .before .next .ensures) ∙ v .1 in
-    let g = standing.on-ended (deepestBody - a .left) (a .first) (a .sheet .now) (a .table .now) (a .s .now) (bodyAt verdictOn (a .s .now) (a .flags .inline) (a .left)) (a .end) (a .flags) (nestAt (a .s .now) (bodyAt verdictOn (a .s .now) (a .flags .inline) (a .left)) (a .end) (a .flags) (a .first) (a .start)) (p .1 .0 .3) (l .n) (l .own) (l .k) (l .marks) (l .numbers) (l .sheet) (l .table) (a .left) _ (l .place) (v .0 .1 .0) (v .0 .0) _ (l .inv .0) e (c .before .before .put-words .ensures) in
+    let g = standing.on-ended (deepestBody - a .left) (a .first) (a .sheet .now) (a .table .now) (a .s .now) (bodyAt verdictOn (a .s .now) (a .flags .inline) (a .left)) (a .end) (a .flags) (nestAt (a .s .now) (bodyAt verdictOn (a .s .now) (a .flags .inline) (a .left)) (a .end) (a .flags) (a .first) (a .start)) (p .1 .0 .3) (l .n) (l .own) (l .k) (l .marks) (l .numbers) (l .sheet) (l .table) (a .left) _ (l .place) (v .0 .0) (v .0 .1 .0) _ (l .inv .0) e (c .before .before .put-words .ensures) in
     g .1
 
 walk-loop-again-3 : (t : ℕ) → walk-lts.Need-loop-again-3 (claims t) (walk-at t) walk.Post walk-Inv-loop walk-μ-loop
@@ -298,10 +298,10 @@ walk-loop-again-3 t c =
     let l = h .loop in
     let a = h .before .before .before .before .before .before .before .args in
     let p = h .before .before .before .before .before .before .before .pre in
-    let v = c .before .before .before .before .before .t2 .given in
+    let v = c .before .before .before .before .before .after .given in
     let e = sym (c .before .before .before .before .before .before .before .next .ensures) ∙ v .1 in
-    let g = standing.on-ended (deepestBody - a .left) (a .first) (a .sheet .now) (a .table .now) (a .s .now) (bodyAt verdictOn (a .s .now) (a .flags .inline) (a .left)) (a .end) (a .flags) (nestAt (a .s .now) (bodyAt verdictOn (a .s .now) (a .flags .inline) (a .left)) (a .end) (a .flags) (a .first) (a .start)) (p .1 .0 .3) (l .n) (l .own) (l .k) (l .marks) (l .numbers) (l .sheet) (l .table) (a .left) _ (l .place) (v .0 .1 .0) (v .0 .0) _ (l .inv .0) e (c .before .before .put-words .ensures) in
-    (g .0, l .inv .1, l .inv .2, l .inv .3, ap length (c .before .before .put-words .ensures) ∙ length-sets (l .sheet) (l .own * 2) (wordsAt (deepestBody - a .left) (v .0 .0)) ∙ l .inv .4, l .inv .5, l .inv .6, l .inv .7)
+    let g = standing.on-ended (deepestBody - a .left) (a .first) (a .sheet .now) (a .table .now) (a .s .now) (bodyAt verdictOn (a .s .now) (a .flags .inline) (a .left)) (a .end) (a .flags) (nestAt (a .s .now) (bodyAt verdictOn (a .s .now) (a .flags .inline) (a .left)) (a .end) (a .flags) (a .first) (a .start)) (p .1 .0 .3) (l .n) (l .own) (l .k) (l .marks) (l .numbers) (l .sheet) (l .table) (a .left) _ (l .place) (v .0 .0) (v .0 .1 .0) _ (l .inv .0) e (c .before .before .put-words .ensures) in
+    (g .0, l .inv .1, l .inv .2, l .inv .3, ap length (c .before .before .put-words .ensures) ∙ length-sets (l .sheet) (l .own * 2) (wordsAt (deepestBody - a .left) (v .0 .1 .0)) ∙ l .inv .4, l .inv .5, l .inv .6, l .inv .7)
 
 walk-enum-known-to : (t : ℕ) → walk-lts.Need-enum-known-to (claims t) (walk-at t) walk.Post walk-Inv-loop walk-μ-loop
 walk-enum-known-to t c = search needs
@@ -369,7 +369,7 @@ walk-returns-2 t c =
     let o = standing.on-over (deepestBody - a .left) (a .first) (a .sheet .now) (a .table .now) (a .s .now) (bodyAt verdictOn (a .s .now) (a .flags .inline) (a .left)) (a .end) (a .flags) (nestAt (a .s .now) (bodyAt verdictOn (a .s .now) (a .flags .inline) (a .left)) (a .end) (a .flags) (a .first) (a .start)) (p .1 .0 .3) (l .n) (l .own) (l .k) (l .marks) (l .numbers) (l .sheet) (l .table) (a .left) _ (l .place) (v .0 .0) (l .inv .0) e in
     let few = standing.stands-few (deepestBody - a .left) (a .first) (a .sheet .now) (a .table .now) (a .s .now) (bodyAt verdictOn (a .s .now) (a .flags .inline) (a .left)) (a .end) (a .flags) (nestAt (a .s .now) (bodyAt verdictOn (a .s .now) (a .flags .inline) (a .left)) (a .end) (a .flags) (a .first) (a .start)) (l .place) (l .n) (l .own) (l .k) (l .marks) (l .numbers) (l .sheet) (l .table) (l .inv .0) in
     let d = c .before .before .before .before .closed .ensures in
-    closing.closes (a .s .now) (length (a .marks .now)) (deepestBody - a .left) (a .first) (a .inside) (a .start) (a .end) (v .0 .0) _ (o .done) (o .read) (l .n) (l .k) (o .low) (o .short) (l .marks) (l .numbers) (a .sheet .now) (l .sheet) (a .table .now) (l .table) _ (o .kept) _ (d .0) (d .1)
+    closing.closes (a .s .now) (length (a .marks .now)) (deepestBody - a .left) (a .first) (a .inside) (a .start) (a .end) (lastOf (v .0 .0)) _ (o .done) (o .read) (l .n) (l .k) (o .low) (o .short) (l .marks) (l .numbers) (a .sheet .now) (l .sheet) (a .table .now) (l .table) _ (o .kept) _ (d .0) (d .1)
 
 walk-enum-known-r-2 : (t : ℕ) → walk-lts.Need-enum-known-r-2 (claims t) (walk-at t) walk.Post walk-Inv-loop walk-μ-loop
 walk-enum-known-r-2 t c = search needs
@@ -410,13 +410,13 @@ pub +walk-spec : {M : Type 1} → statement M
     walk-μ-loop
     (walk-loop-holds t)
     (walk-next-requires t)
-    (walk-enum-known-t t)
+    (walk-enum-known-on t)
     (walk-note-requires t)
     (walk-add-n t)
     (walk-add-k t)
     (walk-loop-less t)
     (walk-loop-again t)
-    (walk-enum-known-at t)
+    (walk-enum-known-back t)
     (walk-add-walk t)
     (walk-without-dependencies-requires t)
     (walk-sub-walk t)
@@ -438,7 +438,7 @@ pub +walk-spec : {M : Type 1} → statement M
     (walk-same-length-4 t)
     (walk-same-length-5 t)
     (walk-returns t)
-    (walk-enum-known-t-2 t)
+    (walk-enum-known-after t)
     (walk-put-words-requires t)
     (walk-loop-less-3 t)
     (walk-loop-again-3 t)

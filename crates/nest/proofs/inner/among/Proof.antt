@@ -17,7 +17,7 @@ returns c =
 returns-2 : tie.Need-returns-2
 returns-2 c =
     let a = c .before .before .before .before .before .args in
-    ap (λ (t : Token). E.Ended t (P.Between (a .values .at))) (c .instance-token .ensures)
+    ap (λ (t : Token). E.Ended (P.Between (a .values .at)) t) (c .instance-token .ensures)
     ∙ ap (valueEvent (a .left) (a .at) (a .values)) (sym (ap nextAnswer (c .before .enum-told .given .1)) ∙ c .before .before .before .next .ensures)
 
 returns-3 : tie.Need-returns-3
