@@ -324,11 +324,70 @@ bool merges()
     return so;
 }
 
+// An event: a definition at 0, an element named at 128 with an attribute named at 144, and at 160 an instance of it with two values.
+bool events()
+{
+    static uint8_t stream[256];
+    static const uint8_t definition[] = {0x41, 0xFF, 0xFF, 0, 0, 0, 0, 128, 0, 0, 0, 0, 0, 0, 0, 0x06, 144, 0, 0, 0, 0x0D, 1, 0, 0x08,
+                                         0x02, 0x0D, 0, 0, 0x04, 0x04};
+    static const uint8_t instance[] = {0x0C, 0, 7, 0, 0, 0, 0, 0, 0, 0, 2, 0, 0, 0, 1, 0, 0x04, 0, 4, 0, 0x08, 0, 5, 0x78, 0x56, 0x34, 0x12};
+    uint64_t rows[13];
+    uint64_t name = untouched;
+    bool so = true;
+
+    for (uint64_t &word : rows)
+        word = untouched;
+    put(stream + 4, 7, 4);
+    put(stream + 20, sizeof definition, 4);
+    for (size_t n = 0; n < sizeof definition; n++)
+        stream[24 + n] = definition[n];
+    put(stream + 132, 'A', 2);
+    put(stream + 134, 1, 2);
+    put(stream + 136, 'A', 2);
+    put(stream + 148, 'c', 2);
+    put(stream + 150, 2, 2);
+    put(stream + 152, 'b', 2);
+    put(stream + 154, 0xD800, 2);
+    for (size_t n = 0; n < sizeof instance; n++)
+        stream[160 + n] = instance[n];
+    so &= refuses("rows for one item", doortumble_event(stream, 256, 160, sizeof instance, 0, rows, 11), DOORTUMBLE_NO_ROOM, 12);
+    so &= holds("a refused event writes nothing", rows[0] == untouched);
+    so &= counts("an event", doortumble_event(stream, 256, 160, sizeof instance, 0, rows, 13), 2);
+    so &= holds("a word past the rows stays", rows[12] == untouched);
+    const doortumble_item attribute = doortumble_item_at(rows, 0);
+    const doortumble_item content = doortumble_item_at(rows, 1);
+    so &= holds("the attribute's item", attribute.body == 0 && attribute.number == 2 && attribute.element == 0 && attribute.in_attribute &&
+                                            attribute.attribute == 1 && attribute.element_name == 128 && attribute.attribute_name == 144);
+    so &= holds("its value", attribute.kind == DOORTUMBLE_KIND_SUBSTITUTION && attribute.optional == 0 && attribute.type == 8 &&
+                                 attribute.value == 1 && attribute.start == 183 && attribute.length == 4 && attribute.bits == 0x12345678);
+    so &= holds("the element's item", content.number == 4 && content.element == 0 && !content.in_attribute && content.attribute_name == 0);
+    so &= holds("and its value", content.type == 4 && content.value == 0 && content.start == 182 && content.length == 1 && content.bits == 5);
+    so &= counts("a name", doortumble_name(stream, 256, 128, 0, &name, 1), 1);
+    const doortumble_units right = doortumble_units_of(name);
+    so &= holds("its units", right.start == 136 && right.count == 1 && right.sound && right.hash_right);
+    so &= holds("its text", doortumble_name_is(stream, right, "A") && !doortumble_name_is(stream, right, "AB") &&
+                                !doortumble_name_is(stream, right, "") && !doortumble_name_is(stream, right, "B"));
+    so &= counts("an overwritten name", doortumble_name(stream, 256, 144, 0, &name, 1), 2);
+    so &= holds("is told", !doortumble_units_of(name).sound && !doortumble_units_of(name).hash_right);
+    so &= refuses("a name past the end", doortumble_name(stream, 256, 257, 0, &name, 1), DOORTUMBLE_PAST_END, 257);
+    so &= refuses("no word for a name", doortumble_name(stream, 256, 128, 0, nullptr, 0), DOORTUMBLE_NO_ROOM, 1);
+    so &= counts("an inline name", doortumble_name(stream, 256, 132, 1, &name, 1), 1);
+    so &= holds("where its units start", doortumble_units_of(name).start == 136);
+    so &= refuses("an inline name with another's hash", doortumble_name(stream, 256, 148, 1, &name, 1), DOORTUMBLE_NAME_HASH, 148);
+    so &= counts("a definition", doortumble_definition(stream, 256, 160, &name, 1), 1);
+    so &= holds("where it stands", name == (UINT64_C(24) << 32) + sizeof definition);
+    so &= refuses("no instance", doortumble_definition(stream, 256, 24, &name, 1), DOORTUMBLE_UNKNOWN_TOKEN, 25);
+    put(stream + 162, 8, 4);
+    so &= refuses("another's definition", doortumble_event(stream, 256, 160, sizeof instance, 0, rows, 13), DOORTUMBLE_OTHER_DEFINITION, 0);
+    so &= refuses("another's, by itself", doortumble_definition(stream, 256, 160, &name, 1), DOORTUMBLE_OTHER_DEFINITION, 0);
+    return so;
+}
+
 } // namespace
 
 int main()
 {
-    const bool so[] = {nothing_lent(), empty_element(), kept_sheets(), announced(), pairs(), flags(), whole_file(), file_header(), chunk_header(), merges()};
+    const bool so[] = {nothing_lent(), empty_element(), kept_sheets(), announced(), pairs(), flags(), whole_file(), file_header(), chunk_header(), merges(), events()};
 
     for (const bool one : so)
         if (!one)

@@ -1,12 +1,17 @@
 // doortumble.h: read Windows event logs from C (C99 or later) or C++.
 //
-// Eight calls of the reader, and the merge, over what the caller lends:
+// Eleven calls of the reader, and the merge, over what the caller lends:
 //
 //   doortumble_list_file      the records of a whole log file, six words a row
 //   doortumble_list           the records of a chunk, five words a row
 //   doortumble_body           the tokens of a record's stream, two words a token, and which token each belongs to, where the
 //                             stream is one event body
 //   doortumble_bodies         the same with the bodies that its values hold (an archive of its own)
+//   doortumble_event          what a record says: each value with the element and the attribute on which it hangs, six words a row
+//                             (an archive of its own)
+//   doortumble_definition     where the tokens of an instance's definition stand (in the same archive)
+//   doortumble_name           the name at an offset (in the same archive)
+//   doortumble_definition     where the tokens of an instance's definition stand (in the same archive)
 //   doortumble_widen          a stream's sheet from a kept one of the old layout, which has one word a token
 //   doortumble_narrow         a sheet of the old layout from one of two words a token
 //   doortumble_file_header    the numbers of a log file's header, and whether its checksum is right
@@ -28,7 +33,8 @@
 //     runs.
 //
 // Link with target/staticlib/libdoortumble.a, which `rt staticlib doortumble` writes; doortumble_bodies, and it alone, is in
-// target/staticlib/libnest_call.a (`rt staticlib nest_call`), and doortumble_merge in target/staticlib/libmerge_call.a
+// target/staticlib/libnest_call.a (`rt staticlib nest_call`), doortumble_event, doortumble_name and doortumble_definition in
+// target/staticlib/libevent_call.a (`rt staticlib event_call`), and doortumble_merge in target/staticlib/libmerge_call.a
 // (`rt staticlib merge_call`). Each links by itself or beside the others.
 #ifndef DOORTUMBLE_H
 #define DOORTUMBLE_H
@@ -50,6 +56,7 @@ extern "C" {
 #define DOORTUMBLE_MOST_ROWS 4645        // no chunk has more rows
 #define DOORTUMBLE_MOST_TOKENS 65536     // no stream has more tokens: each is a byte at least
 #define DOORTUMBLE_SHEET_WORDS 2         // words of a token in a sheet
+#define DOORTUMBLE_ITEM_WORDS 6          // words in a row of an event
 #define DOORTUMBLE_WRITE_WORDS 3         // words of a write, and of a row of a merge
 #define DOORTUMBLE_MOST_WRITES 4096      // no list that is merged has more writes
 
@@ -80,7 +87,10 @@ enum {
     DOORTUMBLE_NINTH_LEVEL = 21,    // a body in a value would be the ninth level; place: the value's start
     DOORTUMBLE_LONG_LIST = 27,      // a list of writes too long; place: 0 for the primary's, else 1
     DOORTUMBLE_SHORT_RESULT = 28,   // result too short; place: rows needed
-    DOORTUMBLE_PAST_VALUE = 29      // the walk of a body in a value ends past it; place: the value's start
+    DOORTUMBLE_PAST_VALUE = 29,     // the walk of a body in a value ends past it; place: the value's start
+    DOORTUMBLE_OTHER_DEFINITION = 30, // where an instance's definition was, another stands; place: that offset
+    DOORTUMBLE_NO_ELEMENT = 31,     // an instance's definition is no element; place: its offset
+    DOORTUMBLE_PAST_COUNT = 32      // a substitution asks for a value past the last; place: the substitution's
 };
 
 // Why, in words, for the person who has to act on it.
@@ -132,6 +142,13 @@ static inline const char *doortumble_why(unsigned number)
         return "a value holds a body eight levels down already, and only eight are read";
     case DOORTUMBLE_PAST_VALUE:
         return "the tokens in a value end past it: its size is wrong, or they are damaged";
+    case DOORTUMBLE_OTHER_DEFINITION:
+        return "the definition that this record was written with was overwritten by another one: its values cannot be told by name, and "
+               "must not be";
+    case DOORTUMBLE_NO_ELEMENT:
+        return "what stands where the record's definition should be is no element: it was overwritten, or the offset is damaged";
+    case DOORTUMBLE_PAST_COUNT:
+        return "the definition asks for more values than the record has: one of the two is damaged";
     case DOORTUMBLE_LONG_LIST:
         return "a list has more than 4,096 writes: the primary's (place 0), or else the other's (place 1)";
     case DOORTUMBLE_SHORT_RESULT:
@@ -545,6 +562,147 @@ static inline int doortumble_has_owner(uint32_t word)
 static inline uint32_t doortumble_owner(uint32_t word)
 {
     return word - 1;
+}
+
+// ------------------------------------------------------------------------------------------------------------ the event
+
+// What a record says: a row for each item of its bodies, with its value and the element and the attribute on which it hangs. An item is a
+// value, a substitution, a char ref, an entity ref or a CDATA. Of an instance the items are those of its definition, wherever in the stream
+// that stands, and the substitution with number m stands for the instance's value m. The definition must be the instance's own: the first
+// word of its GUID is compared with the instance's id, since where a definition was overwritten another one may stand.
+//
+//   stream, stream_len   the bytes that offsets count in, at most 65,536: for a record its whole chunk
+//   start, length        where in the stream the record's payload starts, and its length
+//   inline_names         not 0: names stand in the stream itself; 0: names are offsets, as in a chunk
+//   rows, rows_len       lent for the rows, and their length in words: DOORTUMBLE_ITEM_WORDS a row. They must not overlap the stream
+//
+// Answer: how many rows there are, bodies in their order and items in theirs; or a refusal: all of doortumble_bodies but 16; then body by
+// body 2 or 3 where no definition stands, 30 where it is another's, what the walk of the definition meets (2, 3, 7 to 12), 31 where it is no
+// element, 32 at the first substitution past the instance's last value; then 16 where the rows are too short (its place is the words needed,
+// so a call with 0 words asks for them). A record that is refused 30 must not be guessed at: its values belong to a definition that is gone.
+//
+// The time grows with the definitions, each of which is walked once for every instance that uses it: a record of Windows takes some
+// microseconds; a stream made for it, of thousands of instances that share one long definition, may take a second or two.
+//
+// A refusal leaves the rows as they were; words past the last row stay. Nothing is kept or allocated, at most 1 MiB of stack is needed, and a
+// null pointer with length 0 is allowed.
+uint64_t doortumble_event(const uint8_t *stream, size_t stream_len, uint32_t start, uint32_t length, uint32_t inline_names,
+                          uint64_t *rows, size_t rows_len);
+
+typedef struct doortumble_item {
+    uint32_t body;           // number of the body, 0 the record's own; a body in a value comes after the one that holds it
+    uint32_t number;         // of the item among the tokens of its text: the body's own, or its definition's
+    uint32_t element;        // number of the element's open token in that text
+    int in_attribute;        // not 0 where the item stands in an attribute of the element
+    uint32_t attribute;      // number of the attribute's token. Only where the item stands in one
+    uint32_t element_name;   // offset of the element's name, for doortumble_name
+    uint32_t attribute_name; // offset of the attribute's name; 0 where there is none
+    unsigned kind;           // DOORTUMBLE_KIND_VALUE, _SUBSTITUTION, _CHAR_REF, _ENTITY_REF or _CDATA
+    unsigned optional;       // substitution: 1 where it is optional; else 0
+    unsigned type;           // the value's type code; CDATA: 1; char and entity refs, and what stands for nothing: 0
+    unsigned value;          // substitution: the value's number; char ref: the char; else 0
+    uint32_t start;          // where the content starts in the stream; an entity ref: its name's offset
+    uint32_t length;         // the content's bytes; of a string those before its first zero unit
+    uint64_t bits;           // a number's bits: signed ones in 64 bits of two's complement, reals as they are stored; else 0
+} doortumble_item;
+
+// Row n, counted from 0, of the rows that doortumble_event wrote.
+static inline doortumble_item doortumble_item_at(const uint64_t *rows, uint64_t n)
+{
+    const uint64_t *words = rows + n * DOORTUMBLE_ITEM_WORDS;
+    uint32_t attribute = words[1] & 0xFFFFFFFF;
+    doortumble_item item;
+
+    item.body = (words[0] >> 32) & 0xFFFFFFFF;
+    item.number = words[0] & 0xFFFFFFFF;
+    item.element = (words[1] >> 32) & 0xFFFFFFFF;
+    item.in_attribute = attribute != 0;
+    item.attribute = attribute == 0 ? 0 : attribute - 1;
+    item.element_name = (words[2] >> 32) & 0xFFFFFFFF;
+    item.attribute_name = words[2] & 0xFFFFFFFF;
+    item.kind = (words[3] >> 32) & 0xFF;
+    item.optional = (words[3] >> 24) & 1;
+    item.type = (words[3] >> 16) & 0xFF;
+    item.value = words[3] & 0xFFFF;
+    item.start = (words[4] >> 32) & 0xFFFFFFFF;
+    item.length = words[4] & 0xFFFFFFFF;
+    item.bits = words[5];
+    return item;
+}
+
+// Where the tokens of an instance's definition stand, so that doortumble_body can give its sheet and its owner table: which element stands in
+// which.
+//
+//   stream, stream_len   as for doortumble_event
+//   place                where the instance's token stands, as doortumble_body or doortumble_bodies told it
+//   word, word_len       lent for the answer's word, and their length: 1
+//
+// Answer: 1, or a refusal: 1, then what a read of the token at the place meets (2, 3, 7 to 12), 9 where it is no instance, 2 or 3 where no
+// definition stands where it says, 30 where that is another's, then 16 where no word is lent. Hand start and length to doortumble_body with
+// dependencies 1.
+//
+// A refusal leaves the word as it was. Nothing is kept or allocated, at most 1 MiB of stack is needed, and a null pointer with length 0 is
+// allowed.
+uint64_t doortumble_definition(const uint8_t *stream, size_t stream_len, uint32_t place, uint64_t *word, size_t word_len);
+
+// Where the definition's tokens start, of the word that doortumble_definition wrote.
+static inline uint32_t doortumble_definition_start(uint64_t word)
+{
+    return (word >> 32) & 0xFFFFFFFF;
+}
+
+// For how many bytes on a token may begin.
+static inline uint32_t doortumble_definition_length(uint64_t word)
+{
+    return word & 0xFFFFFFFF;
+}
+
+// The name at an offset of a stream.
+//
+//   stream, stream_len   as for doortumble_event
+//   offset               where the name stands: an item's element_name or attribute_name, or a token's name
+//   inline_names         as for the call that told the offset
+//   name, name_len       lent for the name's word, and their length: 1
+//
+// Answer: how many UTF-16 units the name has, or a refusal: 1, 2 or 3 where no name stands there (inline: 11 and 12 too), then 16 where no
+// word is lent. Whether the units are well-formed and the stored hash is theirs is no refusal but told in the word.
+//
+// A refusal leaves the word as it was. Nothing is kept or allocated, at most 1 MiB of stack is needed, and a null pointer with length 0 is
+// allowed.
+uint64_t doortumble_name(const uint8_t *stream, size_t stream_len, uint32_t offset, uint32_t inline_names, uint64_t *name,
+                         size_t name_len);
+
+typedef struct doortumble_units {
+    uint32_t start;   // where the name's units start in the stream
+    unsigned count;   // how many they are, two bytes each, the low one first
+    int sound;        // 1 where they are well-formed UTF-16; else 0
+    int hash_right;   // 1 where the stored hash is theirs; else 0
+} doortumble_units;
+
+// What the word that doortumble_name wrote says.
+static inline doortumble_units doortumble_units_of(uint64_t name)
+{
+    doortumble_units units;
+
+    units.start = (name >> 32) & 0xFFFFFFFF;
+    units.count = (name >> 8) & 0xFFFF;
+    units.sound = (name >> 1) & 1;
+    units.hash_right = name & 1;
+    return units;
+}
+
+// Not 0 where a name's units are these ASCII characters, no more and no fewer.
+static inline int doortumble_name_is(const uint8_t *stream, doortumble_units units, const char *ascii)
+{
+    const uint8_t *unit = stream + units.start;
+    unsigned n;
+
+    for (n = 0; n < units.count; n++) {
+        if (ascii[n] == 0 || unit[2 * n] != (uint8_t)ascii[n] || unit[2 * n + 1] != 0) {
+            return 0;
+        }
+    }
+    return ascii[n] == 0;
 }
 
 // ------------------------------------------------------------------------------------------------------ the kept sheets

@@ -8,7 +8,7 @@ fn main() {
     let root = package.join("../..").canonicalize().expect("the root");
     let folder = root.join("target/staticlib");
     println!("cargo::rustc-link-search=native={}", folder.display());
-    for library in ["doortumble", "nest_call", "checksum_call", "sheet_call", "merge_call"] {
+    for library in ["doortumble", "nest_call", "event_call", "checksum_call", "sheet_call", "merge_call"] {
         let archive = folder.join(format!("lib{library}.a"));
         assert!(
             archive.is_file(),

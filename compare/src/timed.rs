@@ -6,6 +6,7 @@
 //! arena, which each call resets and so uses again.
 
 use crate::binxml::BinXmlTemplateValues;
+use crate::binxml::ir::{TEMPLATE_DEFINITION_HEADER_SIZE, read_template_definition_header_at};
 use crate::binxml::tokens::{Stream, TokenSink, walk_tokens};
 use crate::binxml::value_variant::BinXmlValue;
 use crate::err::{EvtxError, Result as EvtxResult};
@@ -91,17 +92,28 @@ pub fn open(chunk: &[u8]) -> Call<'_> {
     })
 }
 
+/// Which streams are walked: the one alone, those in its values too, or the definitions that instances name as well.
+const ALONE: u8 = 0;
+const NESTED: u8 = 1;
+const DEFINED: u8 = 2;
+
 /// The token walk of a stream, two words a token.
 pub fn sheet(stream: &[u8], asked: Asked) -> Call<'_> {
-    walk::<false>(stream, asked)
+    walk::<ALONE>(stream, asked)
 }
 
 /// The token walks of a stream and of the streams in its values of type 21, two words a token: these after their instance's.
 pub fn nested(stream: &[u8], asked: Asked) -> Call<'_> {
-    walk::<true>(stream, asked)
+    walk::<NESTED>(stream, asked)
 }
 
-fn walk<const NESTED: bool>(stream: &[u8], asked: Asked) -> Call<'_> {
+/// The token walks of a payload, of the definitions of its instances and of the streams in its values, two words a token: an instance's definition
+/// after it, then its values' streams.
+pub fn event(stream: &[u8], asked: Asked) -> Call<'_> {
+    walk::<DEFINED>(stream, asked)
+}
+
+fn walk<const WHICH: u8>(stream: &[u8], asked: Asked) -> Call<'_> {
     // The printed walk takes names for inline ones where it is given no chunk; it looks at nothing
     // in it.
     let header: &EvtxChunkHeader = Box::leak(Box::new(raw_walk::blank_header()));
@@ -111,7 +123,7 @@ fn walk<const NESTED: bool>(stream: &[u8], asked: Asked) -> Call<'_> {
         let chunk = (!asked.inline_names).then_some(&chunk);
         // SAFETY: the bytes live as long as this closure, and the words are lent for the call.
         unsafe {
-            sheet_into::<NESTED>(
+            sheet_into::<WHICH>(
                 black_box(stream.as_ptr()),
                 stream.len(),
                 asked.start as u32,
@@ -214,7 +226,7 @@ fn refused_row(err: &EvtxError) -> [u64; 5] {
 /// `stream` and `sheet` are good for their lengths.
 #[inline(never)]
 #[allow(clippy::too_many_arguments, reason = "the port's call has as many")]
-unsafe extern "C" fn sheet_into<const NESTED: bool>(
+unsafe extern "C" fn sheet_into<const WHICH: u8>(
     stream: *const u8,
     stream_len: usize,
     start: u32,
@@ -233,7 +245,7 @@ unsafe extern "C" fn sheet_into<const NESTED: bool>(
         ansi_codec: WINDOWS_1252,
         bump: arena,
     };
-    let mut sheet = Sheet::<NESTED> {
+    let mut sheet = Sheet::<WHICH> {
         // SAFETY: as the caller says.
         words: unsafe { from_raw_parts_mut(sheet, sheet_len) }
             .as_chunks_mut()
@@ -248,14 +260,14 @@ unsafe extern "C" fn sheet_into<const NESTED: bool>(
     }
 }
 
-/// A sink that writes two words a token, and walks the streams in values too if it is asked to.
-struct Sheet<'s, 'a, const NESTED: bool> {
+/// A sink that writes two words a token, and walks definitions and the streams in values too if it is asked to.
+struct Sheet<'s, 'a, const WHICH: u8> {
     words: &'s mut [[u64; 2]],
     count: usize,
     stream: Stream<'a>,
 }
 
-impl<'a, const NESTED: bool> Sheet<'_, 'a, NESTED> {
+impl<'a, const WHICH: u8> Sheet<'_, 'a, WHICH> {
     #[inline(always)]
     fn put(&mut self, kind: u8, number: u16, flag: bool, name: ChunkOffset) -> EvtxResult<()> {
         let Some(words) = self.words.get_mut(self.count) else {
@@ -273,16 +285,27 @@ impl<'a, const NESTED: bool> Sheet<'_, 'a, NESTED> {
         walk_tokens(self.stream, start, bytes.len(), false, self)
     }
 
+    /// The walk of the definition there.
+    fn definition(&mut self, offset: ChunkOffset) -> EvtxResult<()> {
+        let data = self.stream.data;
+        let header = read_template_definition_header_at(data, offset)?;
+        let start = offset as usize + TEMPLATE_DEFINITION_HEADER_SIZE;
+        walk_tokens(self.stream, start, header.data_size as usize, true, self)
+    }
+
     #[inline(always)]
     fn nameless(&mut self, kind: u8, number: u16, flag: bool) -> EvtxResult<()> {
         self.put(kind, number, flag, 0)
     }
 }
 
-impl<'a, const NESTED: bool> TokenSink<'a> for Sheet<'_, 'a, NESTED> {
+impl<'a, const WHICH: u8> TokenSink<'a> for Sheet<'_, 'a, WHICH> {
     fn template_instance(&mut self, instance: BinXmlTemplateValues<'a>) -> EvtxResult<()> {
         self.nameless(kinds::INSTANCE, 0, false)?;
-        if NESTED {
+        if WHICH == DEFINED {
+            self.definition(instance.template_def_offset)?;
+        }
+        if WHICH != ALONE {
             for value in &instance.values {
                 if let BinXmlValue::BinXmlType(bytes) = value {
                     self.inner(bytes)?;

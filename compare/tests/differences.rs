@@ -3,6 +3,7 @@
 mod common;
 
 use common::{both, case, hex, lending};
+use compare::oracle::batch::EVENTS;
 use compare::oracle::tokens::Asked;
 use compare::{EvtxChunkData, ParserSettings, timed};
 use std::sync::Arc;
@@ -192,7 +193,7 @@ fn row_8_no_checksum() {
     let no_events = chunk(&[(48, "01020000"), (120, "04")]);
     differs(
         8,
-        &case(b'E', 0, 0, 0, &no_events),
+        &case(EVENTS, 0, 0, 0, &no_events),
         "events no\n",
         "events yes\n",
     );
@@ -239,7 +240,7 @@ fn row_15_events_checksum() {
     assert!(EvtxChunkData::new(right.clone(), true).is_err());
     let (rust, held) = both(&case(b'H', 0, 0, 0, &right));
     assert!(rust == held && rust.contains("\nchecksum yes\n"));
-    same(&case(b'E', 0, 0, 0, &right), "events no\n");
+    same(&case(EVENTS, 0, 0, 0, &right), "events no\n");
 }
 
 #[test]

@@ -3,6 +3,7 @@
 mod common;
 
 use common::{case, hex};
+use compare::oracle::batch::EVENTS;
 use compare::oracle::leaves;
 use compare::oracle::refusal::Refusal;
 
@@ -220,7 +221,7 @@ fn record_reads() {
 #[test]
 fn refused_chunks() {
     let chunk = listing_chunk();
-    for mode in *b"HEW" {
+    for mode in [b'H', EVENTS, b'W'] {
         assert_eq!(
             answers(&case(mode, 0, 0, 0, &chunk[1..])),
             "refused 1 0\n.\n"
@@ -252,16 +253,16 @@ fn header_checksum() {
 #[test]
 fn events_checksum() {
     let mut chunk = listing_chunk();
-    assert_eq!(answers(&case(b'E', 0, 0, 0, &chunk)), "events no\n.\n");
+    assert_eq!(answers(&case(EVENTS, 0, 0, 0, &chunk)), "events no\n.\n");
     let sum = compare::checksum_ieee(&chunk[512..540]);
     chunk[52..56].copy_from_slice(&sum.to_le_bytes());
-    assert_eq!(answers(&case(b'E', 0, 0, 0, &chunk)), "events yes\n.\n");
+    assert_eq!(answers(&case(EVENTS, 0, 0, 0, &chunk)), "events yes\n.\n");
     // A free space offset of 512 leaves no bytes, and their CRC is 0; below it and past the chunk there are none to look at.
     chunk[52..56].fill(0);
     for (free, said) in [(512, "yes"), (511, "no"), (65537, "no"), (u32::MAX, "no")] {
         chunk[48..52].copy_from_slice(&free.to_le_bytes());
         assert_eq!(
-            answers(&case(b'E', 0, 0, 0, &chunk)),
+            answers(&case(EVENTS, 0, 0, 0, &chunk)),
             format!("events {said}\n.\n")
         );
     }

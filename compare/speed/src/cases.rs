@@ -2,6 +2,7 @@
 
 use crate::inputs::{self, Lists, Stream, Tags};
 use crate::port;
+use compare::document::event::{self, Own};
 use compare::oracle::kinds::{ANNOUNCING, ATTRIBUTE, OPEN};
 use compare::oracle::owners::{self, MOST_LEVELS};
 use compare::timed::{self, Call, TOLD};
@@ -54,6 +55,8 @@ pub enum Kind {
     Bodies,
     /// The same on streams that have some. The Rust walks the stream and those in its values.
     Nested,
+    /// The rows of an event. The Rust has none: it walks payload, values and definitions into a sheet.
+    Event,
     /// The sheet from a kept one. The Rust has no such thing: it stands beside the port's own sheet.
     Widen,
     Merge,
@@ -122,6 +125,10 @@ impl Case {
                 Side::Port => port::bodies(bytes, *asked),
                 _ => timed::nested(bytes, *asked),
             },
+            (Kind::Event, Input::Stream(Stream { bytes, asked })) => match side {
+                Side::Port => port::event(bytes, *asked),
+                _ => timed::event(bytes, *asked),
+            },
             (Kind::Merge, Input::Lists(Lists { primary, other })) => match side {
                 Side::Port => port::merge(primary, other, true),
                 _ => timed::merge(primary, other, true),
@@ -149,6 +156,12 @@ impl Case {
         }
         if self.kind == Kind::Body {
             rust = joined(rust.0, &rust.1);
+        }
+        if let (Kind::Event, Input::Stream(stream)) = (self.kind, &self.input) {
+            if rust.0 >> 63 == 1 {
+                return Err(format!("the Rust refuses it: {:x}", rust.0));
+            }
+            rust = hung(stream, self.room());
         }
         let port = self.answer(Side::Port);
         if port.0 != rust.0 {
@@ -197,6 +210,18 @@ fn joined(count: u64, sheet: &[u64]) -> (u64, Vec<u64>) {
     }
 }
 
+/// The answer and the words of the event's call, by the second reading that the comparison holds the port to.
+fn hung(stream: &Stream, room: usize) -> (u64, Vec<u64>) {
+    match event::read(&mut Own(&stream.bytes), stream.asked) {
+        Ok(rows) => {
+            let mut words = rows.concat();
+            words.resize(room, 0);
+            (rows.len() as u64, words)
+        }
+        Err(refusal) => (timed::refused(refusal), vec![0; room]),
+    }
+}
+
 /// FNV-1a over words.
 fn checksum(words: &[u64]) -> u64 {
     let mix = |sum: u64, word: &u64| (sum ^ word).wrapping_mul(0x100_0000_01b3);
@@ -217,7 +242,7 @@ pub fn all() -> Vec<Case> {
         goal: (chunks == 256).then_some(if recovery { 1.0 } else { 0.5 }),
         input: Input::File(inputs::log(chunks)),
     };
-    use Kind::{Bodies, Body, Nested, Sheet, Widen};
+    use Kind::{Bodies, Body, Event, Nested, Sheet, Widen};
     let stream = |name, kind, stream: Stream| Case {
         name,
         kind,
@@ -226,6 +251,7 @@ pub fn all() -> Vec<Case> {
             Body => 1.2,
             Bodies => 1.1,
             Widen => 1.3,
+            Event => 1.5,
             _ => 1.0,
         }),
         input: Input::Stream(stream),
@@ -289,6 +315,8 @@ pub fn all() -> Vec<Case> {
         stream("bodies: single in chunk", Bodies, inputs::single_in_chunk()),
         stream("bodies: record", Nested, inputs::record()),
         stream("bodies: record in chunk", Nested, inputs::record_in_chunk()),
+        stream("event: record", Event, inputs::event()),
+        stream("event: record in chunk", Event, inputs::event_in_chunk()),
         stream("widen: elements", Widen, elements(false, false)),
         merge("merge: tags rise", Tags::Rising, 4096),
         merge("merge: one tag", Tags::One, 4096),

@@ -257,7 +257,7 @@ fn in_chunk(Stream { bytes, mut asked }: Stream, size: usize) -> Stream {
     }
 }
 
-const NAMES: [&str; 10] = [
+const NAMES: [&str; 28] = [
     "EventData",
     "Data",
     "Provider",
@@ -268,9 +268,30 @@ const NAMES: [&str; 10] = [
     "Name",
     "ProcessID",
     "ThreadID",
+    "Event",
+    "System",
+    "xmlns",
+    "Guid",
+    "Qualifiers",
+    "Version",
+    "Level",
+    "Task",
+    "Opcode",
+    "Keywords",
+    "SystemTime",
+    "EventRecordID",
+    "Correlation",
+    "ActivityID",
+    "RelatedActivityID",
+    "Channel",
+    "Security",
+    "UserID",
 ];
 
 const FRAGMENT: &[u8] = &[0x0f, 1, 1, 0];
+
+/// The id of every instance, which its definition's GUID begins with.
+const ID: u32 = 7;
 
 /// The type whose values hold a stream of their own.
 const BODY: u8 = 0x21;
@@ -320,13 +341,18 @@ fn instance() -> Vec<u8> {
 
 /// The same with one value more, of type 21, that holds these bytes, if there are any.
 fn instance_of(values: &[(u8, u16)], inner: &[u8]) -> Vec<u8> {
+    defined_instance(0, values, inner)
+}
+
+/// The same with its definition's offset.
+fn defined_instance(definition: usize, values: &[(u8, u16)], inner: &[u8]) -> Vec<u8> {
     let mut values = values.to_vec();
     if !inner.is_empty() {
         values.push((BODY, inner.len() as u16));
     }
     let mut bytes = vec![0x0c, 1];
-    bytes.extend(7_u32.to_le_bytes());
-    bytes.extend(0_u32.to_le_bytes());
+    bytes.extend(ID.to_le_bytes());
+    bytes.extend((definition as u32).to_le_bytes());
     bytes.extend((values.len() as u32).to_le_bytes());
     for (code, size) in &values {
         bytes.extend(size.to_le_bytes());
@@ -356,6 +382,48 @@ pub fn record() -> Stream {
 /// The same as a record of a chunk, in the chunk.
 pub fn record_in_chunk() -> Stream {
     in_chunk(record(), 1024)
+}
+
+/// A record as Windows writes it, with the definitions of its two instances elsewhere: System with 18 values, the last of which is EventData with
+/// 10. Names are offsets; each stands in place where it is met first.
+pub fn event() -> Stream {
+    let mut maker = Maker::new(true, false);
+    let payload = event_payload(&mut maker);
+    let start = maker.bytes.len();
+    maker.put(&payload);
+    event_stream(maker.bytes, start, payload.len())
+}
+
+/// The same in a chunk: the definitions among its first records, the record about in its middle.
+pub fn event_in_chunk() -> Stream {
+    const SIZE: usize = 1024;
+    let mut maker = Maker::new(true, false);
+    maker.bytes = records(SIZE, true)[..FIRST + 24].to_vec();
+    let payload = event_payload(&mut maker);
+    let mut chunk = records(SIZE, true);
+    chunk[..maker.bytes.len()].copy_from_slice(&maker.bytes);
+    let start = FIRST + CHUNK / SIZE / 2 * SIZE - SIZE + 24;
+    chunk[start..start + payload.len()].copy_from_slice(&payload);
+    event_stream(chunk, start, payload.len())
+}
+
+fn event_stream(bytes: Vec<u8>, start: usize, length: usize) -> Stream {
+    let asked = Asked {
+        start,
+        length,
+        dependencies: false,
+        inline_names: false,
+    };
+    Stream { bytes, asked }
+}
+
+/// Puts both definitions down, and answers the payload that names them.
+fn event_payload(maker: &mut Maker) -> Vec<u8> {
+    let system = maker.definition(Maker::system);
+    let data = maker.definition(Maker::event_data);
+    let inner = [FRAGMENT, &defined_instance(data, &EVENT_DATA, &[])].concat();
+    let outer = defined_instance(system, &VALUES[..17], &inner);
+    [FRAGMENT, &outer, &[0]].concat()
 }
 
 struct Maker {
@@ -451,6 +519,99 @@ impl Maker {
         self.put(&[0x0e]);
         self.put16(turn as u16 % 20);
         self.put(&[0x01]);
+    }
+
+    /// A definition with the tokens that `tokens` puts; its offset.
+    fn definition(&mut self, tokens: fn(&mut Self)) -> usize {
+        let offset = self.bytes.len();
+        self.put32(0);
+        self.put32(ID);
+        self.put(&[0x5a; 12]);
+        self.put32(0);
+        let start = self.bytes.len();
+        self.put(FRAGMENT);
+        tokens(self);
+        self.put(&[0x00]);
+        let length = (self.bytes.len() - start) as u32;
+        self.bytes[start - 4..start].copy_from_slice(&length.to_le_bytes());
+        offset
+    }
+
+    /// An element that holds a substitution.
+    fn holding(&mut self, name: usize, number: usize) {
+        self.open(name, false);
+        self.put(&[0x02]);
+        self.substitution(number);
+        self.put(&[0x04]);
+    }
+
+    /// An empty element whose attributes hold a substitution each.
+    fn attributed(&mut self, name: usize, attributes: &[(usize, usize)]) {
+        self.open(name, true);
+        for &(attribute, number) in attributes {
+            self.attribute(attribute);
+            self.substitution(number);
+        }
+        self.put(&[0x03]);
+    }
+
+    /// The definition of a record: Event with System, and what its last value holds.
+    fn system(&mut self) {
+        self.open(10, true);
+        self.attribute(12);
+        self.text("http://schemas.microsoft.com/win/2004/08/events/event");
+        self.put(&[0x02]);
+        self.open(11, false);
+        self.put(&[0x02]);
+        self.attributed(2, &[(7, 13), (13, 14)]);
+        self.open(3, true);
+        self.attribute(14);
+        self.substitution(4);
+        self.put(&[0x02]);
+        self.substitution(3);
+        self.put(&[0x04]);
+        for (name, number) in [(15, 11), (16, 0), (17, 2), (18, 1), (19, 5)] {
+            self.holding(name, number);
+        }
+        self.attributed(4, &[(20, 6)]);
+        self.holding(21, 10);
+        self.attributed(22, &[(23, 7), (24, 12)]);
+        self.attributed(5, &[(8, 8), (9, 9)]);
+        self.holding(25, 15);
+        self.holding(6, 16);
+        self.attributed(26, &[(27, 12)]);
+        self.put(&[0x04]);
+        self.substitution(17);
+        self.put(&[0x04]);
+    }
+
+    /// The definition of an event's data.
+    fn event_data(&mut self) {
+        self.open(0, false);
+        self.put(&[0x02]);
+        for (number, name) in [
+            "SubjectUserSid",
+            "SubjectUserName",
+            "SubjectDomainName",
+            "SubjectLogonId",
+            "ObjectName",
+            "HandleId",
+            "TransactionId",
+            "ProcessName",
+            "AccessMask",
+            "AccessList",
+        ]
+        .into_iter()
+        .enumerate()
+        {
+            self.open(1, true);
+            self.attribute(7);
+            self.text(name);
+            self.put(&[0x02]);
+            self.substitution(number);
+            self.put(&[0x04]);
+        }
+        self.put(&[0x04]);
     }
 }
 

@@ -19,6 +19,15 @@ unsafe extern "C" {
         rows: *mut u64,
         rows_len: usize,
     ) -> u64;
+    fn doortumble_event(
+        stream: *const u8,
+        stream_len: usize,
+        start: u32,
+        length: u32,
+        inline_names: u32,
+        rows: *mut u64,
+        rows_len: usize,
+    ) -> u64;
     fn doortumble_bench_checksum(chunk: *const u8, chunk_len: usize) -> u32;
     fn doortumble_merge(
         primary: *const u64,
@@ -153,4 +162,22 @@ pub fn body(stream: &[u8], asked: Asked) -> Call<'_> {
 
 pub fn bodies(stream: &[u8], asked: Asked) -> Call<'_> {
     joined!(doortumble_bodies, stream, asked)
+}
+
+/// The rows of an event.
+pub fn event(stream: &[u8], asked: Asked) -> Call<'_> {
+    Box::new(move |rows| {
+        // SAFETY: bytes and words are good for their lengths.
+        unsafe {
+            doortumble_event(
+                stream.as_ptr(),
+                stream.len(),
+                asked.start as u32,
+                asked.length as u32,
+                u32::from(asked.inline_names),
+                rows.as_mut_ptr(),
+                rows.len(),
+            )
+        }
+    })
 }

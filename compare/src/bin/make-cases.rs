@@ -51,7 +51,7 @@ fn read_only(arguments: &[String]) -> Option<(&[String], Option<usize>)> {
 }
 
 fn usage() -> ExitCode {
-    let kinds = "chunk|pair|file|token|body|kept|nest|merge|types|texts|short|three|lists|nests|stored";
+    let kinds = "chunk|pair|file|token|body|kept|nest|event|merge|types|texts|short|three|lists|nests|events|stored";
     eprintln!("usage: make-cases SEED COUNT {kinds} [--only NUMBER] >batch");
     eprintln!("       make-cases real FILE [--only NUMBER] >batch");
     ExitCode::from(2)

@@ -3,6 +3,7 @@
 use super::Case;
 use super::chunks::{self, Chunk, SIZE};
 use super::random::Random;
+use crate::oracle::batch::EVENTS;
 
 /// The cases that one chunk is asked for.
 pub fn of_one_chunk(random: &mut Random) -> Vec<Case> {
@@ -12,7 +13,7 @@ pub fn of_one_chunk(random: &mut Random) -> Vec<Case> {
         cases.push(case(b'H', random.byte(), 0, &[], &chunk.bytes));
     }
     if random.once_in(2) {
-        cases.push(case(b'E', random.byte(), 0, &[], &chunk.bytes));
+        cases.push(case(EVENTS, random.byte(), 0, &[], &chunk.bytes));
     }
     // Flags that a mode does not name are passed over.
     let more = random.one_of(&[0, 0, 2, 0xfe]);

@@ -3,12 +3,14 @@
 use super::Case;
 use super::body_cases::{joined, lending, more, sheet};
 use super::chunk_cases;
+use super::event_cases;
 use super::file_cases::MOST;
 use super::nest_cases;
 use super::token_cases::case;
 use crate::document::chunks::Chunk;
 use crate::document::streams;
 use crate::oracle::CHUNK_SIZE;
+use crate::oracle::batch::EVENTS;
 use crate::oracle::chunk::{Answer, Record};
 use crate::oracle::nests::BODY;
 use crate::oracle::tokens::Asked;
@@ -86,11 +88,12 @@ fn of_chunk(chunk: &[u8], counts: &mut Counts) -> Vec<Case> {
     let at_chunk = |mode, flags, start| chunk_cases::case(mode, flags, start, &[], chunk);
     let mut cases = vec![
         at_chunk(b'H', 0, 0),
-        at_chunk(b'E', 0, 0),
+        at_chunk(EVENTS, 0, 0),
         at_chunk(b'W', 0, 0),
         at_chunk(b'W', 1, 0),
     ];
     let mut named = Named::default();
+    let mut names = BTreeSet::new();
     for record in records(chunk) {
         *(if record.carved {
             &mut counts.carved
@@ -109,11 +112,14 @@ fn of_chunk(chunk: &[u8], counts: &mut Counts) -> Vec<Case> {
         for (start, length) in [(start, length)].into_iter().chain(inner) {
             cases.extend(of_stream(chunk, asked(start, length, false)));
         }
+        cases.push(event_cases::enough(0, start, length, chunk));
+        names.extend(event_cases::names_of(chunk, asked(start, length, false)));
         if !record.carved {
             named.of_records.push(definitions);
         }
     }
 
+    cases.extend(names.into_iter().map(|name| event_cases::of_name(0, 1, name, chunk)));
     named.follow_table(chunk);
     let mut refused = BTreeSet::new();
     for (&offset, &inner) in &named.definitions {
@@ -146,6 +152,12 @@ fn records(chunk: &[u8]) -> Vec<Record> {
         _ => None,
     };
     walk.filter_map(record).collect()
+}
+
+/// The records of a log, live and carved, each with its chunk.
+pub fn all_records(log: &[u8]) -> impl Iterator<Item = (&[u8], Record)> {
+    let chunks = log.get(FILE_HEADER..).unwrap_or_default().chunks(CHUNK_SIZE);
+    chunks.flat_map(|chunk| records(chunk).into_iter().map(move |record| (chunk, record)))
 }
 
 /// The definitions that a chunk's instances name.

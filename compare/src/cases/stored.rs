@@ -3,6 +3,7 @@
 use super::Case;
 use super::chunk_cases::case;
 use super::chunks::SIZE;
+use super::event_cases;
 use super::file_cases;
 use super::kept_cases;
 use super::merge_cases;
@@ -10,6 +11,7 @@ use super::stored_bodies;
 use super::stored_nests;
 use super::stored_tokens;
 use crate::Hasher;
+use crate::oracle::batch::EVENTS;
 
 const MAGIC: &[u8] = b"ElfChnk\0";
 
@@ -23,6 +25,7 @@ pub fn cases() -> Vec<Case> {
     cases.extend(file_cases::stored());
     cases.extend(kept_cases::stored());
     cases.extend(merge_cases::stored());
+    cases.extend(event_cases::stored());
     // No such mode: the run ends.
     cases.push(case(b'Z', 0, 0, &[], &[]));
     cases.push(case(b'H', 0, 0, &[], &[]));
@@ -36,9 +39,9 @@ fn whole_chunks() -> Vec<Case> {
     let cut = chunk(&[(48, &65536_u32.to_le_bytes())]);
     vec![
         case(b'H', 0, 0, &[], &numbered()),
-        case(b'E', 0, 0, &[], &with_records()),
-        case(b'E', 0, 0, &[], &chunk(&[(48, &512_u32.to_le_bytes())])),
-        case(b'E', 0, 0, &[], &chunk(&[(48, &511_u32.to_le_bytes())])),
+        case(EVENTS, 0, 0, &[], &with_records()),
+        case(EVENTS, 0, 0, &[], &chunk(&[(48, &512_u32.to_le_bytes())])),
+        case(EVENTS, 0, 0, &[], &chunk(&[(48, &511_u32.to_le_bytes())])),
         case(b'R', 1, 600, &[], &damaged),
         case(b'W', 1, 0, &[], &damaged),
         case(b'W', 0, 0, &[], &damaged),
@@ -52,7 +55,7 @@ fn short_chunks() -> Vec<Case> {
     for length in [0, 1, 511, 512] {
         let mut short = chunk(&[]);
         short.truncate(length);
-        for mode in *b"HERW" {
+        for mode in [b'H', EVENTS, b'R', b'W'] {
             cases.push(case(mode, 0xff, 512, &[], &short));
         }
         cases.push(case(b'P', 0, 0, &state([1, 512, 0, 0, 0]), &short));

@@ -4,15 +4,17 @@
 //! only how answers are written, how document 02 cuts a file, and the machine of mode O, which the checks hold to the grammar.
 
 pub mod chunks;
+pub mod event;
 pub mod merges;
 pub mod nests;
 mod reader;
 pub mod streams;
 mod values;
 
-use crate::oracle::batch::{Case, push_rows};
+use crate::oracle::batch::{self, Case, push_rows};
 use crate::oracle::calls::push_joined;
 use crate::oracle::chunk::{Answer, State, refused, words};
+use crate::oracle::event::{push as push_event, push_name};
 use crate::oracle::file;
 use crate::oracle::nests::by_machine;
 use crate::oracle::refusal::Refusal;
@@ -25,7 +27,7 @@ pub fn answer(case: &Case, out: &mut String) {
     let data = case.input();
     match case.mode {
         b'H' => header(data, out),
-        b'E' => events(data, out),
+        batch::EVENTS => events(data, out),
         b'R' => record(data, u64::from(case.start), case.flag(1), out),
         b'W' => walk(data, case.flag(1), out),
         b'F' => file::answer(data, out, |chunk, out| walk(chunk, case.flag(1), out)),
@@ -38,6 +40,14 @@ pub fn answer(case: &Case, out: &mut String) {
             push_joined(joined, case.rooms(), out);
         }
         b'M' => merges::push(&case.parts(), case.flag(1), out),
+        batch::EVENT => {
+            let rows = event::read(&mut event::Own(data), case.payload());
+            push_event(rows, case.room(), out);
+        }
+        batch::NAME => {
+            let name = event::name(data, case.start as usize, case.flag(2));
+            push_name(name, case.room(), out);
+        }
         mode => unreachable!("a case of mode {mode}"),
     }
 }
@@ -60,7 +70,7 @@ fn header(data: &[u8], out: &mut String) {
     }
 }
 
-/// Mode E.
+/// A chunk's events checksum.
 fn events(data: &[u8], out: &mut String) {
     match Chunk::new(data) {
         Ok(chunk) if chunk.events_checksum() => out.push_str("events yes\n"),

@@ -1,6 +1,6 @@
 //! 'Token walk', sentence by sentence.
 
-use super::reader::{Read, Reader};
+use super::reader::{Read, Reader, number};
 use super::values::{self, Value};
 use crate::oracle::refusal::Refusal;
 use crate::oracle::tokens::{Asked, Row, push_open, push_soundness};
@@ -183,7 +183,7 @@ fn name(reader: &mut Reader<'_>, inline: bool) -> Read<Name> {
 
 /// "Inline name: hash u16, count u16, units, zero unit; hash is h·65599 + unit modulo 2^32 from 0, low 16 bits. 11 comes
 /// before 12." What is handed back are the bytes of its units.
-fn inline_name<'a>(reader: &mut Reader<'a>) -> Read<&'a [u8]> {
+pub(super) fn inline_name<'a>(reader: &mut Reader<'a>) -> Read<&'a [u8]> {
     let start = reader.at;
     let stored = reader.half()?;
     let count = reader.half()?;
@@ -201,6 +201,13 @@ fn inline_name<'a>(reader: &mut Reader<'a>) -> Read<&'a [u8]> {
         return Reader::refuse(12, start);
     }
     units.take(2 * usize::from(count))
+}
+
+/// "hash is h·65599 + unit modulo 2^32 from 0, low 16 bits", of these bytes' units.
+pub(super) fn hash(units: &[u8]) -> u16 {
+    let units = units.as_chunks::<2>().0.iter();
+    let step = |hash: u32, unit: &[u8; 2]| hash.wrapping_mul(65599).wrapping_add(number(unit) as u32);
+    units.fold(0, step) as u16
 }
 
 /// "CDATA and PI data: u16 n, then n units; the view stops before the first zero unit."

@@ -32,7 +32,7 @@ fn known(code: u8) -> bool {
 }
 
 /// "Widths: 03, 04: 1; 05, 06: 2; 07, 08, 0B, 0D, 14: 4; 09, 0A, 0C, 11, 15: 8; 0F, 12: 16."
-fn width(code: u8) -> Option<usize> {
+pub(super) fn width(code: u8) -> Option<usize> {
     match code {
         0x03 | 0x04 => Some(1),
         0x05 | 0x06 => Some(2),

@@ -7,8 +7,13 @@ use crate::oracle::chunk::State;
 use crate::oracle::differences::{self, Met};
 use crate::oracle::refusal::Refusal;
 use crate::oracle::tokens::{Asked, Row};
-use crate::oracle::{calls, chunk, file, nests, owners, tokens};
+use crate::oracle::{calls, chunk, event, file, nests, owners, tokens};
 use std::io::{self, Read, Write};
+
+/// The letters of the modes of a chunk's events checksum, of an event, and of a name.
+pub const EVENTS: u8 = b'D';
+pub const EVENT: u8 = b'E';
+pub const NAME: u8 = b'J';
 
 const HEAD: usize = 14;
 const DATA_LIMIT: usize = 331_776;
@@ -47,9 +52,9 @@ impl Case {
     /// What a mode's data has at least, in bytes; `None` where there is no such mode.
     fn least(mode: u8) -> Option<usize> {
         match mode {
-            b'H' | b'E' | b'R' | b'W' | b'F' | b'T' | b'S' | b'O' => Some(0),
+            b'H' | EVENTS | b'R' | b'W' | b'F' | b'T' | b'S' | b'O' => Some(0),
             b'P' => Some(STATE),
-            b'C' => Some(ROOM),
+            b'C' | EVENT | NAME => Some(ROOM),
             b'B' | b'N' => Some(ROOMS),
             b'K' => Some(KEPT),
             b'M' => Some(NUMBERS),
@@ -87,6 +92,14 @@ impl Case {
         }
     }
 
+    /// The payload that an event's mode is asked for: its walks carry no dependencies.
+    pub(crate) fn payload(&self) -> Asked {
+        Asked {
+            dependencies: false,
+            ..self.walk()
+        }
+    }
+
     /// Mode P's state.
     pub(crate) fn state(&self) -> State {
         let mut words = [0; 5];
@@ -101,8 +114,8 @@ impl Case {
         Parts::new(&self.data).expect("a case has them")
     }
 
-    /// How many words mode C lends.
-    fn room(&self) -> u32 {
+    /// How many words the modes lend that lend one kind.
+    pub(crate) fn room(&self) -> u32 {
         self.word(0)
     }
 
@@ -225,7 +238,7 @@ fn answer(case: &Case, out: &mut String) -> Met {
     let data = case.input();
     match case.mode {
         b'H' => chunk::answer_header(data, out),
-        b'E' => chunk::answer_events(data, out),
+        EVENTS => chunk::answer_events(data, out),
         b'R' => chunk::answer_record(data, u64::from(case.start), case.flag(1), out),
         b'W' => chunk::answer_walk(data, case.flag(1), out),
         b'P' => chunk::answer_step(data, case.state(), out),
@@ -250,6 +263,16 @@ fn answer(case: &Case, out: &mut String) -> Met {
             let (joined, met) = nests::read(data, case.walk());
             calls::push_joined(joined, case.rooms(), out);
             met
+        }
+        EVENT => {
+            let (rows, met) = event::read(data, case.payload());
+            event::push(rows, case.room(), out);
+            met
+        }
+        NAME => {
+            let name = event::name(data, case.start as usize, case.flag(2));
+            event::push_name(name, case.room(), out);
+            Met::new()
         }
         // The printed Rust has no merge: the second reading answers for it.
         b'M' => {

@@ -156,7 +156,12 @@ pub(crate) fn push_moved(rows: Result<Vec<Row>, Refusal>, moved: &Move, out: &mu
             None => Ok(made),
         }
     });
-    let room = room(moved.room);
+    push_fitting(filled, moved.room, out);
+}
+
+/// What a call makes, on so many lent words.
+pub(crate) fn push_fitting(filled: Result<Filled, Refusal>, said: u32, out: &mut String) {
+    let room = room(said);
     push_left(filled.and_then(|filled| fitting(filled, room)), room, out);
 }
 

@@ -3,6 +3,7 @@
 //! The document decides. A case that meets none of these must have equal answers in both; one that
 //! meets a row may differ, from a line on that the row explains.
 
+use crate::oracle::batch::EVENT;
 use crate::oracle::nests::BODY;
 use crate::oracle::values::{STRING_ARRAY, read_table};
 use crate::utils::ByteCursor;
@@ -86,7 +87,7 @@ pub(super) fn held(mode: u8, document: &str, rust: &str, met: &Met) -> String {
     let differing = pairs.find(|(ours, theirs)| ours != theirs);
     let explains = |row: &&Difference| {
         differing.is_some_and(|(ours, theirs)| match mode {
-            b'O' | b'C' | b'B' | b'K' | b'N' => row.explains_unlisted(ours, theirs),
+            b'O' | b'C' | b'B' | b'K' | b'N' | EVENT => row.explains_unlisted(ours, theirs),
             _ => row.explains(ours, theirs),
         })
     };
@@ -117,7 +118,7 @@ impl Difference {
         }
     }
 
-    /// The same in the modes O, C, B, K and N, whose answers do not list the tokens: the token that meets the row has no line of its
+    /// The same in the modes O, C, B, K, N and that of an event, whose answers do not list the tokens: the token that meets the row has no line of its
     /// own there, and what comes after it may decide.
     fn explains_unlisted(self, document: &str, rust: &str) -> bool {
         match self {

@@ -7,6 +7,7 @@ pub mod calls;
 pub mod chunk;
 pub mod content;
 pub mod differences;
+pub mod event;
 pub mod file;
 pub mod kinds;
 pub mod leaves;

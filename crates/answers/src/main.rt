@@ -1,5 +1,6 @@
 // Answers a batch of cases (docs/ANSWERS.md): cases come on standard input, their answers go to standard output. What is answered stands in
-// `chunk_answers`, `file_text`, `stream_answers` and `merge_answers`; this program reads the cases and finds the mode. No rule of the format stands here.
+// `chunk_answers`, `file_text`, `stream_answers`, `merge_answers` and `event_answers`; this program reads the cases and finds the mode. No rule of
+// the format stands here.
 use cursor::Part;
 use libc::STDIN_FILENO;
 use libc::STDOUT_FILENO;
@@ -133,7 +134,7 @@ fn bad(out: &mut [u8], at: usize) -> Turn {
 fn least_data(mode: u8) -> usize {
     match mode {
         b'H' => 0,
-        b'E' => 0,
+        b'D' => 0,
         b'R' => 0,
         b'W' => 0,
         b'P' => chunk_answers::STATE,
@@ -146,6 +147,8 @@ fn least_data(mode: u8) -> usize {
         b'N' => stream_answers::ROOMS,
         b'K' => stream_answers::KEPT,
         b'M' => merge_answers::FRONT,
+        b'E' => event_answers::ROOM,
+        b'J' => event_answers::ROOM,
         _ => MOST_DATA + 1,
     }
 }
@@ -165,7 +168,7 @@ fn answer(out: &mut [u8], at: usize, case: Case, bytes: &[u8]) -> usize {
     let first = case.flags % 2 == 1;
     match mode {
         b'H' => chunk_answers::header(out, at, bytes),
-        b'E' => chunk_answers::events(out, at, bytes),
+        b'D' => chunk_answers::events(out, at, bytes),
         b'R' => chunk_answers::record(out, at, bytes, case.start as usize, first),
         b'W' => chunk_answers::walk(out, at, bytes, first),
         b'P' => chunk_answers::step(out, at, bytes),
@@ -186,6 +189,8 @@ fn on_stream(out: &mut [u8], at: usize, case: Case, bytes: &[u8]) -> usize {
         b'B' => stream_answers::body_call(out, at, bytes, asked),
         b'N' => stream_answers::bodies_call(out, at, bytes, asked),
         b'K' => stream_answers::kept_call(out, at, bytes, asked, case.flags / 4 % 2 == 1),
+        b'E' => event_answers::event_rows(out, at, bytes, case.start, case.length, is_inline(case)),
+        b'J' => event_answers::looked_up(out, at, bytes, case.start, is_inline(case)),
         _ => stream_answers::sheet_alone(out, at, bytes, asked),
     }
 }
@@ -197,7 +202,11 @@ fn asked_of(case: Case) -> Asked {
         length: case.length,
         flags: Flags {
             dependencies: case.flags % 2 == 1,
-            inline: case.flags / 2 % 2 == 1,
+            inline: is_inline(case),
         },
     }
+}
+
+fn is_inline(case: Case) -> bool {
+    case.flags / 2 % 2 == 1
 }

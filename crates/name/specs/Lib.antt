@@ -1,4 +1,5 @@
 -- The definitions that the contracts of `name` cite.
 pub mod Hash
 pub mod Name
+pub mod Lookup
 pub mod Pieces

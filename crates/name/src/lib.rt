@@ -1,15 +1,24 @@
 // Names in a token stream: offset names and inline names, and the hash of a name. The Rust: binxml/name.rs.
 mod inline;
+mod lookup;
 mod offset;
 
+use cursor::Counted;
 use cursor::Cursor;
 use cursor::Refusal;
 use cursor::unit_at;
+use lookup::Found;
+use lookup::LookedUp;
 use std::num::wrapping_add_u32;
 use std::num::wrapping_sub_u32;
 ghost use mathlib.Core.Path.{_≡_};
 ghost use Rattle.cursor.specs.Text.{unitsOf};
+ghost use mathlib.Core.List.{_∷_, []};
+ghost use Rattle.cursor.specs.Answer.{gives};
+ghost use Rattle.cursor.specs.Answers.{countAnswer};
+ghost use Rattle.cursor.specs.Lent.{lentLeft};
 ghost use Rattle.name.specs.Hash.{hashOf, mixed};
+ghost use Rattle.name.specs.Lookup.{lookedUp, foundAnswer, foundWords, foundWord};
 ghost use Rattle.name.specs.Name.{nameAt, nameAnswer, nameOf, soundnessOf};
 
 // Whether a name's units are well-formed UTF-16. An offset name's are not judged, which is no case of sound.
@@ -65,6 +74,40 @@ pub fn read_name_ref(c: Cursor, s: &[u8], inline: bool) -> NameRead
     } else {
         offset::read_offset_name_ref(c, s)
     }
+}
+
+// The name at an offset, as a word in lent ones: where its units start, how many they are, whether they are sound, and whether the hash that is
+// stored before them is theirs. It answers how many units there are.
+pub fn look_up(s: &[u8], offset: u32, inline: bool, word: &mut [u64]) -> Counted
+    ensures { λ r. ⌜ countAnswer r ≡ foundAnswer (lookedUp (now (s .entry)) offset inline) (now (word .entry)) ⌝ }
+    ensures { λ _. ⌜ now (word .exit) ≡ lentLeft (foundWords (lookedUp (now (s .entry)) offset inline)) (now (word .entry)) ⌝ }
+{
+    match lookup::look_up(s, offset, inline) {
+        LookedUp::Name(f) => laid(f, word),
+        LookedUp::Refused(r) => Counted::Refused(r),
+    }
+}
+
+fn laid(f: Found, word: &mut [u64]) -> Counted
+    ensures { λ r. ⌜ countAnswer r ≡ foundAnswer (gives f) (now (word .entry)) ⌝ }
+    ensures { λ _. ⌜ now (word .exit) ≡ lentLeft (gives (foundWord f ∷ [])) (now (word .entry)) ⌝ }
+{
+    if word.len() < 1 {
+        return Counted::Refused(Refusal {
+            number: Refusal::NO_ROOM,
+            place: 1,
+        });
+    }
+    word[0] = word_of(f);
+    Counted::Count(f.count)
+}
+
+fn word_of(f: Found) -> u64
+    ensures { λ r. ⌜ r ≡ foundWord f ⌝ }
+{
+    let start = (f.units % 0x1_0000_0000) as u64;
+    let count = (f.count % 0x1_0000) as u64;
+    start * 0x1_0000_0000 + count * 0x100 + cursor::bit(f.sound) * 2 + cursor::bit(f.hashed)
 }
 
 // The hash of a run of units.

@@ -35,6 +35,7 @@ pub mod PackedHeader
 pub mod Kept
 pub mod PackedKept
 pub mod PackedCalls
+pub mod PackedName
 pub mod EachToken
 pub mod Numbered
 pub mod Told
@@ -56,3 +57,6 @@ pub mod NestEach
 pub mod NestRoom
 pub mod OfNest
 pub mod NestSamples
+pub mod EventOne
+pub mod EventRows
+pub mod OfEvent

@@ -15,3 +15,4 @@ pub mod Merging
 pub mod Nests
 pub mod NestWindows
 pub mod NestSamples
+pub mod EventRows

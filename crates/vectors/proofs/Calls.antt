@@ -76,4 +76,11 @@ calls =
       sheet-lines = refl;
       body-lines = refl;
       told = (refl, refl);
+      looked-up = refl;
+      name-room = refl;
+      name-before-room = refl;
+      rows = refl;
+      rows-room = refl;
+      rows-lines = refl;
+      name-lines = refl;
     }

@@ -12,6 +12,7 @@ use Rattle.cursor.specs.Text.{unitsOf, wellFormed, countedAt, prefixedAt, zeroE
 use Rattle.cursor.specs.declared.Part.{Part}
 use Rattle.cursor.specs.declared.View.{View}
 use Rattle.name.specs.Hash.{hashOf}
+use Rattle.name.specs.Lookup.{lookedUp, foundAnswer, foundWords}
 use Rattle.name.specs.Name.{nameOf, nameAt}
 use Rattle.name.specs.declared.Soundness.the-variants.{Unsound, NotJudged}
 use Rattle.value.specs.Kinds.{knownCode, widthOf, elementWidthOf}
@@ -27,11 +28,13 @@ use Rattle.tokens.specs.Single.{endsOf}
 use Rattle.tokens.specs.Walk.{walkOf, countedOf}
 use Rattle.tokens.specs.declared.Flags.{Flags}
 use Rattle.doortumble.specs.Calls.{packedOf}
+use Rattle.event.specs.Event.{eventAnswer}
+use Rattle.event_answers.specs.Called.{nameText}
 use Rattle.checksum_call.specs.Said.{saidOf}
 use Rattle.print.specs.Text.{ascii, page, put}
 use Rattle.body.specs.Verdict.{both}
 use Rattle.sheet_call.specs.Told.{toldOf}
-use Rattle.stream_answers.specs.Modes.{ownersText, answerText, sheetText}
+use Rattle.stream_answers.specs.Modes.{ownersText, answerText, wordsText, sheetText}
 use Rattle.stream_answers.specs.Body.{bothText}
 use Rattle.stream_answers.specs.Walk.{walkText}
 use Rattle.promises.specs.Samples.{emptyElement, announcedElement, anInstance, whole, walkOfStream}
@@ -62,6 +65,10 @@ freeAt free events =
       flags = 0;
       checksum = 0;
     }
+
+-- a name of one unit, which is not sound, with its hash
+abbrev aName : List ℕ
+aName = 0 ∷ 0 ∷ 0 ∷ 0 ∷ 0x00 ∷ 0xD8 ∷ 1 ∷ 0 ∷ 0x00 ∷ 0xD8 ∷ []
 
 -- 512 bytes and then these three
 abbrev afterHeader : List ℕ
@@ -165,3 +172,13 @@ pub record Calls : Type 0 where
       ≡ ascii "answer 0000000000000001\nsheet 0000000000000009 0000000000000008\ntable 00000000 00000009\n"
   -- `doortumble_bench_sheet`: a count, and all ones for a refusal
   pub told : (toldOf (gives 2) ≡ 2) × (toldOf (refuses 16 4) ≡ 0xFFFFFFFFFFFFFFFF)
+  -- `name::look_up`, `doortumble_name`: where the units start, not sound, and the hash is theirs; 16 comes after the name's own refusals
+  pub looked-up : foundWords (lookedUp aName 0 false) ≡ gives (0x800000101 ∷ [])
+  pub name-room : packedOf (foundAnswer (lookedUp aName 0 false) []) ≡ 0x9000000000000001
+  pub name-before-room : foundAnswer (lookedUp aName 2 false) [] ≡ refuses 3 10
+  -- `event::fill`, `doortumble_event`: rows are counted, and words are needed
+  pub rows : eventAnswer (gives (replicate 12 0)) (replicate 12 9) ≡ gives 2
+  pub rows-room : eventAnswer (gives (replicate 12 0)) (replicate 11 9) ≡ refuses 16 12
+  -- `event_rows`, `looked_up`: the answer's word, and all words that were lent
+  pub rows-lines : answerText (packedOf (gives 1)) ++ wordsText (9 ∷ []) ≡ ascii "answer 0000000000000001\nwords 0000000000000009\n"
+  pub name-lines : nameText aName 0 false (9 ∷ 8 ∷ []) ≡ ascii "answer 0000000000000001\nwords 0000000800000101 0000000000000008\n"

@@ -1,0 +1,2 @@
+-- Laws that the proofs here cite.
+pub mod Flag

@@ -1,0 +1,2 @@
+-- The definitions that the contracts of `event_answers` cite.
+pub mod Called
