@@ -1,5 +1,5 @@
 # make               the command and the library, in target/
-# make install       the command, its man page, the C header, the reader's three archives and their pkg-config file, below PREFIX (in DESTDIR, if given)
+# make install       the command, its man page, the C header, the reader's archives and their pkg-config file, below PREFIX (in DESTDIR, if given)
 # make uninstall     takes them away again
 # make check         the gate
 # make clean         removes the command; what is proved stays
@@ -14,28 +14,19 @@ prefix = $(abspath $(PREFIX))
 root = $(DESTDIR)$(prefix)
 installed = bin/doortumble share/man/man1/doortumble.1 include/doortumble.h lib/libdoortumble.a lib/libnest_call.a lib/libevent_call.a lib/pkgconfig/doortumble.pc
 
-# The archives of doortumble_bodies and of doortumble_event, and what they are made from.
-bodies = target/staticlib/libnest_call.a
-walked = cursor name value tokens sheet body nest doortumble nest_call
-events = target/staticlib/libevent_call.a
-said = $(walked) event event_call
+# The reader's archives, which command/build builds.
+archives = $(addprefix target/staticlib/lib,doortumble.a nest_call.a event_call.a)
 
 all:
 	@CC='$(CC)' CFLAGS='$(CFLAGS)' command/build
 
-install: all $(bodies) $(events)
+install: all
 	install -d $(addprefix '$(root)'/,bin share/man/man1 include lib/pkgconfig)
 	install -m 755 target/command/doortumble '$(root)/bin/'
 	install -m 644 command/doortumble.1 '$(root)/share/man/man1/'
 	install -m 644 include/doortumble.h '$(root)/include/'
-	install -m 644 target/staticlib/libdoortumble.a $(bodies) $(events) '$(root)/lib/'
+	install -m 644 $(archives) '$(root)/lib/'
 	sed 's|@PREFIX@|$(prefix)|; s|@VERSION@|'"$$(cat command/VERSION)"'|' command/doortumble.pc.in >'$(root)/lib/pkgconfig/doortumble.pc'
-
-$(bodies): crates.txt $(wildcard $(foreach crate,$(walked),crates/$(crate)/src/*.rt))
-	rt staticlib nest_call
-
-$(events): crates.txt $(wildcard $(foreach crate,$(said),crates/$(crate)/src/*.rt))
-	rt staticlib event_call
 
 uninstall:
 	rm -f $(addprefix '$(root)'/,$(installed))

@@ -32,7 +32,13 @@ static void text_counts(struct job *job)
     out_number(out, counts->carved);
     out_text(out, " carved, ");
     out_number(out, counts->refused);
-    out_text(out, " refused; ");
+    out_text(out, " refused");
+    if (job->view->reads) {
+        out_text(out, ", ");
+        out_number(out, counts->unread);
+        out_text(out, " unread");
+    }
+    out_text(out, "; ");
     out_number(out, counts->chunks);
     out_text(out, counts->chunks == 1 ? " chunk present, " : " chunks present, ");
     out_number(out, counts->empty);
@@ -54,5 +60,7 @@ void print_counts(struct job *job)
     form_number(form, "live", job->counts.live);
     form_number(form, "carved", job->counts.carved);
     form_number(form, "refused", job->counts.refused);
+    if (job->view->reads)
+        form_number(form, "unread", job->counts.unread);
     form_end(form);
 }

@@ -164,6 +164,20 @@ static enum status tell_shorter(struct job *job)
     return FAILED;
 }
 
+static enum status tell_refused(struct job *job)
+{
+    const struct counts *counts = &job->counts;
+
+    if (counts->refused == 0 && counts->unread == 0)
+        return ALL_READ;
+    if (counts->unread == 0)
+        tell(job, "%s: %" PRIu64 " refused. Merge nothing from what was refused; %s.", job->name, counts->refused, job->view->next);
+    else
+        tell(job, "%s: %" PRIu64 " refused, and %" PRIu64 " records unread. Merge nothing from them; %s.", job->name, counts->refused,
+             counts->unread, job->view->next);
+    return SOME_REFUSED;
+}
+
 static enum status end_file(struct job *job)
 {
     if (job->out.error != 0)
@@ -177,11 +191,7 @@ static enum status end_file(struct job *job)
              "%s: it holds no chunk: it ends at byte %" PRIu64 ", and its first chunk would begin at %" PRIu32
              ". If the log had records, its copy stopped early: fetch it again.",
              job->name, input_length(&job->input), job->header.block_size);
-    if (job->counts.refused == 0)
-        return ALL_READ;
-    tell(job, "%s: %" PRIu64 " refused. Merge nothing from what was refused; %s.", job->name, job->counts.refused,
-         job->view->next);
-    return SOME_REFUSED;
+    return tell_refused(job);
 }
 
 // ------------------------------------------------------------------------------------------------------------- the file

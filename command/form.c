@@ -19,7 +19,7 @@ void form_head(struct form *form)
 }
 
 // What stands before a field: of JSON its name, of CSV a comma, and one more for each field that was left out.
-static void before(struct form *form, const char *name)
+void form_open(struct form *form, const char *name)
 {
     int first = form->next == 0;
 
@@ -47,13 +47,13 @@ void form_row(struct form *form, const char *file, const char *what)
 
 void form_number(struct form *form, const char *name, uint64_t number)
 {
-    before(form, name);
+    form_open(form, name);
     out_number(form->out, number);
 }
 
 void form_text(struct form *form, const char *name, const char *text)
 {
-    before(form, name);
+    form_open(form, name);
     if (form->kind == FORM_JSON)
         quote_json(form->out, text);
     else

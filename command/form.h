@@ -30,6 +30,7 @@ void form_row(struct form *form, const char *file, const char *what);
 void form_number(struct form *form, const char *name, uint64_t number);
 void form_text(struct form *form, const char *name, const char *text);
 void form_time(struct form *form, const char *name, const char *exact, uint64_t ticks); // two fields: readable, and the ticks
+void form_open(struct form *form, const char *name); // a field that whoever calls writes itself
 void form_end(struct form *form);
 
 #endif

@@ -263,4 +263,4 @@ static void info_end(struct job *job)
 }
 
 const struct view info_view = {"info",       names,      info_begin, print_empty,
-                               info_refused, info_chunk, info_end,   "'doortumble list' says of each where and why"};
+                               info_refused, info_chunk, info_end,   "'doortumble list' says of each where and why", 0};

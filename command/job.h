@@ -28,12 +28,22 @@ struct counts {
     uint64_t live;
     uint64_t carved;
     uint64_t refused;
+    uint64_t unread; // records, live and carved, whose event is refused; only show reads them
+};
+
+// Which records are shown.
+struct filter {
+    int by_id;
+    uint64_t id;
+    uint64_t from; // ticks, the first and the last
+    uint64_t to;
 };
 
 // Of one file at a time; all of it is there from the start, so that no log is too large for it.
 struct job {
     const struct view *view;
     int recovery; // carve old records too
+    int tokens;   // show tokens instead of fields
     int several;  // more than one file was named
     int headed;   // something stands on the output already
 
@@ -41,6 +51,7 @@ struct job {
     char name[SHOWN_BYTES]; // for a person
     doortumble_file_header_fields header;
     struct counts counts;
+    struct filter filter;
 
     struct form form;
     struct input input;
@@ -60,15 +71,21 @@ struct view {
     void (*chunk)(struct job *job, uint64_t offset, const uint8_t *chunk, uint64_t rows); // its rows stand in job->rows
     void (*end)(struct job *job);
     const char *next; // where a person finds what was refused
+    int reads;        // it reads what records say, takes the options for that, and counts what is unread
 };
 
 extern const struct view list_view;
 extern const struct view info_view;
+extern const struct view show_view;
 
 // Goes through one file, standard input where it is "-".
 enum status read_file(struct job *job, const char *file);
 
-// What every subcommand prints alike: chunks of zeros, and the counts that end a file.
+// What several subcommands print alike: a record's line, or the first fields of its row; what was refused; chunks of zeros; and the
+// counts that end a file.
+void print_record(struct job *job, uint64_t chunk, doortumble_row row);
+void begin_record(struct job *job, uint64_t chunk, doortumble_row row);
+void print_refused(struct job *job, uint64_t chunk, unsigned number, uint64_t place, const char *why);
 void print_empty(struct job *job, uint64_t offset, uint64_t chunks);
 void print_counts(struct job *job);
 

@@ -17,7 +17,7 @@ static const char *what_of(uint64_t item)
 
 // -------------------------------------------------------------------------------------------------- records and refusals
 
-static void text_record(struct job *job, uint64_t chunk, doortumble_row row)
+void print_record(struct job *job, uint64_t chunk, doortumble_row row)
 {
     char *to = out_room(&job->out, 128);
 
@@ -32,7 +32,7 @@ static void text_record(struct job *job, uint64_t chunk, doortumble_row row)
     out_took(&job->out, to);
 }
 
-static void form_record(struct job *job, uint64_t chunk, doortumble_row row)
+void begin_record(struct job *job, uint64_t chunk, doortumble_row row)
 {
     struct form *form = &job->form;
 
@@ -42,7 +42,6 @@ static void form_record(struct job *job, uint64_t chunk, doortumble_row row)
     form_number(form, "id", row.id);
     form_time(form, "time", "ticks", row.filetime);
     form_number(form, "size", row.size);
-    form_end(form);
 }
 
 static void text_refusal(struct job *job, uint64_t chunk, unsigned number, uint64_t place, const char *why)
@@ -63,7 +62,7 @@ static void text_refusal(struct job *job, uint64_t chunk, unsigned number, uint6
 }
 
 // The place counts from the chunk's start; the offset from the file's.
-static void list_refused(struct job *job, uint64_t chunk, unsigned number, uint64_t place, const char *why)
+void print_refused(struct job *job, uint64_t chunk, unsigned number, uint64_t place, const char *why)
 {
     struct form *form = &job->form;
 
@@ -85,15 +84,17 @@ static void list_row(struct job *job, uint64_t chunk, doortumble_row row)
 {
     if (row.item == DOORTUMBLE_ROW_REFUSED) {
         job->counts.refused++;
-        list_refused(job, chunk, (unsigned)row.size, row.offset, doortumble_why((unsigned)row.size));
+        print_refused(job, chunk, (unsigned)row.size, row.offset, doortumble_why((unsigned)row.size));
         return;
     }
     job->counts.live += row.item == DOORTUMBLE_ROW_LIVE;
     job->counts.carved += row.item == DOORTUMBLE_ROW_CARVED;
-    if (job->form.kind == FORM_TEXT)
-        text_record(job, chunk, row);
-    else
-        form_record(job, chunk, row);
+    if (job->form.kind == FORM_TEXT) {
+        print_record(job, chunk, row);
+        return;
+    }
+    begin_record(job, chunk, row);
+    form_end(&job->form);
 }
 
 static void list_chunk(struct job *job, uint64_t offset, const uint8_t *chunk, uint64_t rows)
@@ -111,5 +112,5 @@ static void list_begin(struct job *job)
         out_text(&job->out, "    offset  what             id  time                              size\n");
 }
 
-const struct view list_view = {"list",       names,      list_begin,   print_empty,
-                               list_refused, list_chunk, print_counts, "the lines with 'refused' say where and why"};
+const struct view list_view = {"list",        names,      list_begin,   print_empty,
+                               print_refused, list_chunk, print_counts, "the lines with 'refused' say where and why", 0};

@@ -8,6 +8,7 @@
 #include <unistd.h>
 
 #include "job.h"
+#include "when.h"
 
 #ifndef DOORTUMBLE_VERSION
 #define DOORTUMBLE_VERSION "not given"
@@ -15,6 +16,7 @@
 
 static const char help[] =
     "usage: doortumble list [OPTION]... FILE...   the records, live and carved, and what cannot be read\n"
+    "       doortumble show [OPTION]... FILE...   what each record says: its values, by element and attribute\n"
     "       doortumble info [OPTION]... FILE...   the header, the chunks, checksums, gaps in IDs and times\n"
     "       doortumble --help | --version\n"
     "\n"
@@ -25,6 +27,12 @@ static const char help[] =
     "    --csv           a line of names, then a line a row, instead of text\n"
     "    --no-recovery   do not look for old records where no live one stands\n"
     "    --              what follows is a file, whatever it begins with\n"
+    "Of show:\n"
+    "    --id N          only the record with this ID\n"
+    "    --from TIME     only records from this time on, UTC: 2025-01-15, 2025-01-15T03:01:41.5, or ticks\n"
+    "    --to TIME       only records up to this time; a day, minute or second is meant with all of it\n"
+    "    --live          only records that belong to the log, as --no-recovery\n"
+    "    --tokens        instead of values the tokens, each below its owner\n"
     "\n"
     "What a line is about:\n"
     "    live      a record that belongs to the log\n"
@@ -42,7 +50,7 @@ static const char help[] =
     "\n"
     "'man doortumble' has examples, and what each field of --json and --csv is.\n";
 
-static const struct view *const views[] = {&list_view, &info_view};
+static const struct view *const views[] = {&list_view, &show_view, &info_view};
 
 static struct job job; // too large for a stack
 
@@ -72,15 +80,56 @@ static enum status set_form(enum form_kind kind)
     return ALL_READ;
 }
 
+// Options of show that stand alone. Not 0 where this is one.
+static int set_shown(const char *option)
+{
+    if (!job.view->reads)
+        return 0;
+    if (strcmp(option, "--live") == 0) {
+        job.recovery = 0;
+        return 1;
+    }
+    if (strcmp(option, "--tokens") != 0)
+        return 0;
+    job.tokens = 1;
+    return 1;
+}
+
 static enum status set_option(const char *option)
 {
     if (strcmp(option, "--json") == 0)
         return set_form(FORM_JSON);
     if (strcmp(option, "--csv") == 0)
         return set_form(FORM_CSV);
-    if (strcmp(option, "--no-recovery") != 0)
+    if (strcmp(option, "--no-recovery") != 0 && !set_shown(option))
         return tell_usage("there is no option ", option, "; a file whose name begins so goes behind '--'");
-    job.recovery = 0;
+    if (strcmp(option, "--no-recovery") == 0)
+        job.recovery = 0;
+    return ALL_READ;
+}
+
+// Options of show with a value.
+static int takes_value(const char *option)
+{
+    return job.view->reads && (strcmp(option, "--id") == 0 || strcmp(option, "--from") == 0 || strcmp(option, "--to") == 0);
+}
+
+static enum status set_value(const char *option, const char *value)
+{
+    struct span span;
+
+    if (value == NULL)
+        return tell_usage("behind ", option, " its value is missing");
+    if (strcmp(option, "--id") == 0) {
+        job.filter.by_id = 1;
+        return read_number(value, &job.filter.id) ? ALL_READ : tell_usage("no record has the ID ", value, ": it is a whole number");
+    }
+    if (!read_span(value, &span))
+        return tell_usage("there is no time ", value, ": it is written as 2025-01-15 or 2025-01-15T03:01:41.5, in UTC, or in ticks");
+    if (strcmp(option, "--from") == 0)
+        job.filter.from = span.first;
+    else
+        job.filter.to = span.last;
     return ALL_READ;
 }
 
@@ -96,8 +145,10 @@ static int take_options(char **arguments)
             options = 0;
         else if (!options || (*argument)[0] != '-' || (*argument)[1] == 0)
             arguments[files++] = *argument;
-        else if (set_option(*argument) != ALL_READ)
+        else if (takes_value(*argument) ? set_value(argument[0], argument[1]) : set_option(*argument))
             return -1;
+        else if (takes_value(*argument))
+            argument++;
     arguments[files] = NULL;
     return files;
 }
@@ -152,6 +203,8 @@ static enum status run_view(const char *verb, char **arguments)
     files = take_options(arguments);
     if (files == 0)
         return tell_usage("name a file, or '-' for standard input: doortumble ", verb, " FILE");
+    if (job.tokens && job.form.kind != FORM_TEXT)
+        return tell_usage("--tokens", "", " are shown as text: leave --json and --csv out");
     job.several = files > 1;
     return files < 0 ? FAILED : read_files(arguments);
 }
@@ -185,6 +238,7 @@ int main(int count, char **arguments)
     out_start(&job.out, STDOUT_FILENO);
     job.form.out = &job.out;
     job.recovery = 1;
+    job.filter.to = UINT64_MAX;
     progress_start(&job.progress);
     return (int)end_output(run(count > 0 ? arguments + 1 : arguments));
 }

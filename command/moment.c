@@ -79,3 +79,18 @@ char *moment_put(struct moment *moment, char *to, uint64_t ticks)
     *to++ = 'Z';
     return to;
 }
+
+int moment_of(const struct date *date, uint64_t *ticks)
+{
+    const unsigned *before = before_month[is_leap(date->year)];
+    uint64_t years = date->year - 1601;
+    uint64_t days;
+
+    if (date->year < 1601 || date->year > 30827 || date->month < 1 || date->month > 12 || date->day < 1 ||
+        date->day > before[date->month] - before[date->month - 1] || date->hour > 23 || date->minute > 59 || date->second > 59 ||
+        date->tick >= TICKS_A_SECOND)
+        return 0;
+    days = 365 * years + years / 4 - years / 100 + years / 400 + before[date->month - 1] + date->day - 1;
+    *ticks = (((days * 24 + date->hour) * 60 + date->minute) * 60 + date->second) * TICKS_A_SECOND + date->tick;
+    return 1;
+}

@@ -18,4 +18,18 @@ struct moment {
 // Writes the moment at a place that has MOMENT_BYTES, and answers where it ends.
 char *moment_put(struct moment *moment, char *to, uint64_t ticks);
 
+// A date and time of day by the Gregorian calendar, in UTC.
+struct date {
+    uint64_t year; // 1601 to 30827, as a SYSTEMTIME can have
+    uint64_t month;
+    uint64_t day;
+    uint64_t hour;
+    uint64_t minute;
+    uint64_t second;
+    uint64_t tick; // of the second
+};
+
+// Its ticks. Not 0 where there is such a date; else nothing is written.
+int moment_of(const struct date *date, uint64_t *ticks);
+
 #endif

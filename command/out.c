@@ -62,6 +62,11 @@ void out_took(struct out *out, const char *end)
 
 void out_bytes(struct out *out, const char *bytes, size_t length)
 {
+    if (length <= OUT_BYTES - out->length) {
+        memcpy(out->bytes + out->length, bytes, length);
+        out->length += length;
+        return;
+    }
     while (length > 0) {
         size_t part = length < OUT_ROOM ? length : OUT_ROOM;
         char *to = out_room(out, part);
@@ -133,6 +138,28 @@ char *put_right(char *to, uint64_t number, unsigned width)
         to += width - digits;
     }
     return put_padded(to, number, digits);
+}
+
+static const char hex_digits[] = "0123456789ABCDEF";
+
+char *put_hex(char *to, uint64_t number, unsigned digits)
+{
+    unsigned n;
+
+    for (n = digits; n > 0; n--, number >>= 4)
+        to[n - 1] = hex_digits[number & 15];
+    return to + digits;
+}
+
+char *put_hex_bytes(char *to, const uint8_t *bytes, size_t length)
+{
+    size_t n;
+
+    for (n = 0; n < length; n++) {
+        *to++ = hex_digits[bytes[n] >> 4];
+        *to++ = hex_digits[bytes[n] & 15];
+    }
+    return to;
 }
 
 char *put_left(char *to, const char *text, unsigned width)

@@ -41,6 +41,10 @@ char *put_right(char *to, uint64_t number, unsigned width);
 // A number's last so many digits, zeros in front.
 char *put_padded(char *to, uint64_t number, unsigned digits);
 
+// A number's last so many digits in hex, and bytes.
+char *put_hex(char *to, uint64_t number, unsigned digits);
+char *put_hex_bytes(char *to, const uint8_t *bytes, size_t length);
+
 // A text, to the left in a field of that width.
 char *put_left(char *to, const char *text, unsigned width);
 

@@ -30,7 +30,7 @@ static unsigned escape_of(const unsigned char *from)
     return from[0] == 0xE2 && from[1] == 0x80 && (from[2] == 0xA8 || from[2] == 0xA9) ? 0x2000u + from[2] - 0x80 : 0;
 }
 
-static char *put_hex(char *to, unsigned byte)
+static char *put_byte(char *to, unsigned byte)
 {
     static const char digits[] = "0123456789abcdef";
 
@@ -50,7 +50,7 @@ void quote_shown(char *to, size_t room, const char *text)
         if (length == 0 || escape_of(from) != 0) {
             *to++ = '\\';
             *to++ = 'x';
-            to = put_hex(to, *from++);
+            to = put_byte(to, *from++);
         } else {
             memcpy(to, from, length);
             to += length;
@@ -69,7 +69,7 @@ static size_t json_character(struct out *out, const unsigned char *from)
 
     if (escape != 0) {
         memcpy(to, "\\u", 2);
-        to = put_hex(put_hex(to + 2, escape >> 8), escape & 0xFF);
+        to = put_byte(put_byte(to + 2, escape >> 8), escape & 0xFF);
     } else {
         if (*from == '"' || *from == '\\')
             *to++ = '\\';

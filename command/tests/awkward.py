@@ -72,13 +72,14 @@ def closed():
     path = f"{folder}/closed.evtx"
     with open(path, "wb") as out:
         out.write(log([run_of(n * 500 + 1, n * 500 + 500) for n in range(40)], 20_001))
-    with subprocess.Popen([program, "list", path], stdout=subprocess.PIPE, stderr=subprocess.PIPE) as run:
-        run.stdout.read(1)
-        run.stdout.close()
-        said = run.stderr.read()
-        run.wait(60)
-    hold(run.returncode == 4 and said.count(b"\n") == 1 and b"the program that it went to has closed its end" in said, "closed pipe", run.returncode, said)
-    for shell, word in (('"$0" list "$1" >&-', b"could not be written"), ('"$0" list - <&-', b"cannot")):
+    for command in (["list"], ["show"], ["show", "--json"], ["show", "--csv"], ["show", "--tokens"]):
+        with subprocess.Popen([program, *command, path], stdout=subprocess.PIPE, stderr=subprocess.PIPE) as run:
+            run.stdout.read(1)
+            run.stdout.close()
+            said = run.stderr.read()
+            run.wait(60)
+        hold(run.returncode == 4 and said.count(b"\n") == 1 and b"the program that it went to has closed its end" in said, "closed pipe", command, run.returncode, said)
+    for shell, word in (('"$0" list "$1" >&-', b"could not be written"), ('"$0" show "$1" >&-', b"could not be written"), ('"$0" list - <&-', b"cannot")):
         run = subprocess.run(["sh", "-c", shell, program, path], capture_output=True, timeout=60)
         hold(run.returncode in (2, 4) and (word in run.stderr or b"empty" in run.stderr), shell, run.returncode, run.stderr)
     run = subprocess.run(["sh", "-c", '"$0" list "$1" >&- 2>&-', program, path], timeout=60)

@@ -1,6 +1,6 @@
 """fuzz.py PROGRAM WHOLE FOLDER SECONDS FILE...: damaged files, made from these and from a seed. The command ends by itself with 0, 1 or 2 on
-each, with a total as its last row wherever it is a log; and its rows are those of doortumble_list_file on the whole file (WHOLE prints them).
-A file that fails is kept in FOLDER."""
+each, with a total as its last row wherever it is a log; its rows are those of doortumble_list_file on the whole file (WHOLE prints them); and
+show has the same records, in each form as many. A file that fails is kept in FOLDER."""
 
 import random
 import shutil
@@ -80,12 +80,36 @@ def look(name, verb, run, printed):
         hold(run.json()[-1]["what"] == "total", f"{name} info: no total")
 
 
+def inside(data):
+    """Something else inside records, where their tokens, names and values stand."""
+    for _ in range(2 ** some.randrange(6)):
+        at = 4096 + 512 + some.randrange(max(len(data) - 5000, 1))
+        if at + 4 <= len(data):
+            struct.pack_into(*some.choice((("<B", data, at, some.choice((0, 1, 4, 5, 6, 8, 12, 13, 14, 15, 33, 65, 129))), ("<H", data, at, some.randrange(2**16)),
+                                           ("<I", data, at, some.choice((0, 512, 550, 65535, some.randrange(2**16)))))))
+
+
+def look_shown(name, listed):
+    """Each form of show has the records of list; text ends in a total."""
+    shown, csv = Run(program, "show", "--json", path), Run(program, "show", "--csv", path)
+    hold(shown.status == csv.status and shown.status in (0, 1, 2), f"{name} show: status {shown.status}, {csv.status}: {shown.said.decode(errors='replace')}")
+    if shown.status == 2:
+        return
+    rows = shown.json()
+    hold([(row["what"], row.get("offset"), row.get("id")) for row in rows] == [(row["what"], row.get("offset"), row.get("id")) for row in listed.json()],
+         f"{name} show: other records than list's")
+    hold(sum(max(len(row.get("fields", [])), 1) for row in rows) == len(csv.csv()), f"{name} show: other fields in CSV than in JSON")
+    for more in ((), ("--tokens", "--live")):
+        text = Run(program, "show", *more, path)
+        hold(text.status in (0, 1) and text.out.decode("utf-8").splitlines()[-1].startswith("total: "), f"{name} show {more}: no total")
+
+
 bases = [data for data in (open(file, "rb").read()[:20 * CHUNK] for file in files) if len(data) >= 256]
 cases = 0
 while time.monotonic() < until:
-    data = bytearray(some.choice(bases) if some.random() < 0.6 else made())
+    data = bytearray(some.choice(bases)[:4096 + some.choice((1, 3, 20)) * CHUNK] if some.random() < 0.6 else made())
     for _ in range(some.randrange(1, 4)):
-        some.choice((flip, field, field, block, cut, swap, longer))(data)
+        some.choice((flip, field, field, block, cut, swap, longer, inside, inside))(data)
         if len(data) < 256:
             break
     with open(path, "wb") as out:
@@ -93,7 +117,9 @@ while time.monotonic() < until:
     name = f"seed {seed} case {cases}"
     printed = subprocess.run([whole, path], capture_output=True).stdout
     failures = command.failures
-    look(name, "list", Run(program, "list", "--json", path), printed)
+    listed = Run(program, "list", "--json", path)
+    look(name, "list", listed, printed)
+    look_shown(name, listed)
     look(name, "info", Run(program, "info", "--json", "-", given=bytes(data)), printed)
     text = Run(program, "list", path)
     hold(text.status == 2 or text.out.splitlines()[-1].startswith(b"total: "), f"{name} text: no total")
