@@ -6,23 +6,27 @@
 PREFIX = /usr/local
 DESTDIR =
 CFLAGS = -O2
+# The compiler, where the caller names one; else command/build knows which.
 ifeq ($(origin CC),default)
-CC = gcc
+CC =
 endif
 
 prefix = $(abspath $(PREFIX))
 root = $(DESTDIR)$(prefix)
-installed = bin/doortumble share/man/man1/doortumble.1 include/doortumble.h lib/libdoortumble.a lib/libnest_call.a lib/libevent_call.a lib/pkgconfig/doortumble.pc
+installed = bin/doortumble bin/doortumble.x86-64 share/man/man1/doortumble.1 include/doortumble.h lib/libdoortumble.a lib/libnest_call.a lib/libevent_call.a lib/pkgconfig/doortumble.pc
 
 # The reader's archives, which command/build builds.
 archives = $(addprefix target/staticlib/lib,doortumble.a nest_call.a event_call.a)
+
+# The command; where an emulator runs it, a script and the program that it starts.
+programs = $$(ls target/command/doortumble target/command/doortumble.x86-64 2>/dev/null)
 
 all:
 	@CC='$(CC)' CFLAGS='$(CFLAGS)' command/build
 
 install: all
 	install -d $(addprefix '$(root)'/,bin share/man/man1 include lib/pkgconfig)
-	install -m 755 target/command/doortumble '$(root)/bin/'
+	install -m 755 $(programs) '$(root)/bin/'
 	install -m 644 command/doortumble.1 '$(root)/share/man/man1/'
 	install -m 644 include/doortumble.h '$(root)/include/'
 	install -m 644 $(archives) '$(root)/lib/'
