@@ -13,11 +13,11 @@ use Rattle.cursor.specs.Answer.{Answer, given, refused, Result, gives, refuses,
 use Rattle.sheet.specs.Sheet.{marksOf}
 use Rattle.body.specs.Reader.{verdictOn}
 use Rattle.body.proofs.Answers.{verdict-right}
+use Rattle.nest.specs.Going.{Kept}
 use Rattle.nest.specs.Nested.{pastValue, ninthLevel, deepestBody, Entry, Own, innerFlags, renumbered, entriesOf, tokensOf, numbersFrom, byNumbers, closedAt, bodyAt, sheetOf, ownersOf}
 use Rattle.nest.specs.Pieces.{full, numbersOf, countIn, sheetOwn, tableOwn, setAt, numbersTo, verdictAnswer, verdictTable, Numbered, Laid, WalkRead, windowBy}
 use Rattle.nest.proofs.Judging.{each-word}
-use Rattle.nest.proofs.Stacks.{numbers-all, numbers-length, numbers-below, sheet-entries, entries-length, table-entries}
-use Rattle.nest.proofs.Standing.{Kept}
+use Rattle.nest.proofs.Stacks.{few, numbers-all, numbers-length, numbers-below, numbers-alone, sheet-entries, entries-length, table-entries}
 
 -- a body with levels left is a window; with none, it is refused
 pub body-is : (s : List ℕ) (inline : Bool) (left n at size : ℕ) → 0 < left
@@ -42,7 +42,7 @@ second false b e h = let z : _≡_ {A = Bool} false true = h in absurd (differ z
     differ : _≡_ {A = Bool} false true → ⊥
     differ z = let y : _≡_ {A = ℕ} 0 1 = ap (λ (b : Bool). pick b 1 0) z in omega arith
 
--- the numbers on the stack are below the next one
+-- the numbers on the stack are below the next one, and where no others are numbered, each is its place
 pub kept-numbered : (level first : ℕ) (sheet₀ table₀ : List ℕ) (d : List Own) (n k : ℕ) (marks numbers sheet table : List ℕ)
     → Kept level first sheet₀ table₀ d n k marks numbers sheet table → n ≤ 65536 → Numbered numbers k n
 kept-numbered level first sheet₀ table₀ d n k marks numbers sheet table h b = (
@@ -50,6 +50,10 @@ kept-numbered level first sheet₀ table₀ d n k marks numbers sheet table h b 
   λ i l.
       let e : getD numbers i 0 ≡ getD (numbersOf first d) i 0 = sym (getD-take k numbers i 0 l) ∙ ap (λ (x : List ℕ). getD x i 0) (h .numbered) in
       omega (arith, e, numbers-below d first i (omega (arith, l, h .depth)), h .many),
+  λ q i l.
+      let e : getD numbers i 0 ≡ getD (numbersOf first d) i 0 = sym (getD-take k numbers i 0 l) ∙ ap (λ (x : List ℕ). getD x i 0) (h .numbered) in
+      let c : countIn d ≡ length d = omega (arith, q, few d, h .many, h .depth) in
+      omega (arith, e, q, c, few d, numbers-alone d first i c (omega (arith, l, h .depth)), h .many, h .depth),
 )
 
 module _ (s : List ℕ) (room level first : ℕ) (inside : Bool) (start end at : ℕ) (whole : Answer (List Own)) (d : List Own) (r : whole ≡ given d at)

@@ -2,11 +2,11 @@
 use mathlib.Core.Path.{_≡_, refl, sym, ap, _∙_}
 use mathlib.Core.List.{List, [], _∷_, _++_, map}
 use Prim.Native.Nat.{ℕ, zero, suc, _+_, _-_, _≤_, _<_}
+use native.Mathlib.Decide.{decLt}
 use native.Mathlib.Omega.{arith}
 use lib.ListN.{length, getD, take, drop, set, List·getD-append, List·getD-eq-default, length-append, length-map, length-drop, List·getD-map}
-use lib.Seq.{sets, getD-take, getD-at, length-take-le, drop-cons}
+use lib.Seq.{getD-take, getD-at, length-take-le, drop-cons}
 use Rattle.cursor.proofs.Units.{tail}
-use Rattle.sheet.proofs.Noting.{put-two}
 use Rattle.nest.specs.Nested.{renumbered}
 use Rattle.nest.specs.Pieces.{numbersTo, setAt}
 
@@ -22,6 +22,15 @@ module _ (numbers : List ℕ) (k n : ℕ) (h : k ≤ length numbers) where
   pub number-out : (i : ℕ) → k < i → 0 ≡ getD (numbersTo k n numbers) i 0
   number-out i l =
       sym (List·getD-eq-default (numbersTo k n numbers) 0 (omega (arith, length-append (take k numbers) (n ∷ []), length-take-le k numbers h)))
+
+  -- where each number is its place, a word stays; past the last number it is as a number that is not there
+  pub alone-in : n ≡ k → ((i : ℕ) → i < k → getD numbers i 0 ≡ i) → (w : ℕ) → w ≤ k + 1 → w ≡ renumbered (numbersTo k n numbers) w
+  alone-in e f zero l = refl
+  alone-in e f (suc i) l = elim (decLt i k) [ yes m ↦ ap suc (sym (f i m) ∙ number-in i m) | no m ↦ let q : i ≡ k = omega arith in ap suc (q ∙ sym e ∙ number-last i q) ]
+
+  pub alone-out : (w : ℕ) → k + 1 < w → 1 ≡ renumbered (numbersTo k n numbers) w
+  alone-out zero l = absurd (omega arith)
+  alone-out (suc i) l = ap suc (number-out i (omega arith))
 
 -- words set at their numbers, one at a time
 pub set-on : (numbers words table : List ℕ) (i : ℕ) → i < length numbers → i < length words
@@ -62,10 +71,6 @@ renumbered-is numbers (suc i) m h e =
     let j : suc i - 1 ≡ i = omega arith in
     let q : m ≡ getD numbers i 0 = e ∙ ap (λ (k : ℕ). getD numbers k 0) j in
     omega (arith, q)
-
--- two numbers set, one behind the other
-pub put-both : (left mid next : List ℕ) (i a b x y : ℕ) → mid ≡ set left i a → next ≡ set mid (i + 1) b → a ≡ x → b ≡ y → next ≡ sets left i (x ∷ y ∷ [])
-put-both left mid next i a b x y h g e q = put-two left next i a b x y (g ∙ ap (λ (l : List ℕ). set l (i + 1) b) h) e q
 
 -- how long the end of a slice is
 pub part-length : (s : List ℕ) (at : ℕ) → length (take (length s - at) (drop at s)) ≡ length s - at

@@ -78,6 +78,18 @@ numbers-below [] n i h = absurd (omega arith)
 numbers-below (o ∷ d) n zero h = omega arith
 numbers-below (o ∷ d) n (suc i) h = omega (arith, numbers-below d (suc n + length (o .within)) i (omega arith))
 
+-- as many own tokens as there are are among those numbered
+pub few : (d : List Own) → length d ≤ countIn d
+few [] = omega arith
+few (o ∷ d) = omega (arith, few d)
+
+-- where no others are, each number is one more than the one before it
+pub numbers-alone : (d : List Own) (n i : ℕ) → countIn d ≡ length d → i < length d → getD (numbersOf n d) i 0 ≡ n + i
+numbers-alone [] n i e h = absurd (omega arith)
+numbers-alone (o ∷ d) n zero e h = omega arith
+numbers-alone (o ∷ d) n (suc i) e h =
+    omega (arith, e, few d, numbers-alone d (suc n + length (o .within)) i (omega (arith, e, few d)) (omega arith))
+
 module _ (level : ℕ) where
   pub sheet-snoc : (d : List Own) (t : Token) (c : List Entry)
       → sheetOwn level (d ++ (own t c ∷ [])) ≡ sheetOwn level d ++ (wordsAt level t ++ sheetOf c)

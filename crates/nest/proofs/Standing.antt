@@ -6,7 +6,7 @@ use mathlib.Core.Logic.{_⊎_, inl, inr}
 use Prim.Native.Nat.{ℕ, zero, suc, _+_, _-_, _*_, _≤_, _<_}
 use native.Mathlib.Omega.{arith}
 use borrow.Author.Tests.{eqb-true, eqb-false}
-use lib.Dec.{eqb}
+use lib.Dec.{eqb, ltb}
 use lib.ListN.{length, getD, take, set, length-append}
 use lib.Seq.{sets, take-suc-set}
 use Rattle.cursor.specs.Answer.{Answer, given, refused, Result, gives, refuses, _then_, pick, Maybe, just, nothing}
@@ -23,14 +23,17 @@ use Rattle.tokens.specs.declared.Token.{Token}
 use Rattle.tokens.specs.declared.Values.{Values}
 use Rattle.tokens.proofs.Sights.{Sees, sight-sees}
 use Rattle.sheet.specs.Sheet.{markOf, marksOf}
-use Rattle.nest.specs.Nested.{binXml, ninthLevel, Entry, Own, own, Inner, heldIn, valuesFrom, nestAt, tokensOf, wordsAt, sheetOf, ownersOf}
-use Rattle.nest.specs.Pieces.{full, refusalOf, lastOf, instanceToken, tokenEvent, seenEvent, heldEvent, valueEvent, eventAt, numbersOf, countIn, sheetOwn, tableOwn}
+use Rattle.nest.specs.Going as going
+use Rattle.nest.specs.Going.{Kept, instanceOf, Carries, Passes, MetAt, Meets, Near}
+use Rattle.nest.specs.Nested.{deepestBody, binXml, ninthLevel, Entry, Own, own, Inner, heldIn, valuesFrom, nestAt, tokensOf, wordsAt, sheetOf, ownersOf}
+use Rattle.nest.specs.Pieces.{full, refusalOf, lastOf, instanceToken, fullEvent, tokenEvent, seenEvent, heldEvent, valueEvent, eventAt, numbersOf, countIn, sheetOwn, tableOwn}
 use Rattle.nest.specs.declared.inner.Event.{Event}
 use Rattle.nest.specs.declared.inner.Event.the-variants as E
 use Rattle.nest.specs.declared.inner.Place.{Place}
 use Rattle.nest.specs.declared.inner.Place.the-variants as P
+use Rattle.nest.specs.declared.inner.Stop.{Stop}
 use Rattle.nest.proofs.Nesting.{prepended, prepended-none, prepended-twice, nest-token, nest-header, nest-over, nest-refused, nest-begun, values-none, values-held, values-refused, values-refused-in}
-use Rattle.nest.proofs.Stacks.{count-snoc, marks-snoc, numbers-snoc, sheet-token, sheet-ended, sheet-body, table-token, table-ended, table-body}
+use Rattle.nest.proofs.Stacks.{few, count-snoc, marks-snoc, numbers-snoc, sheet-token, sheet-ended, sheet-body, table-token, table-ended, table-body}
 use Rattle.nest.proofs.Values.{NextIs, next-is, value-spans}
 
 -- an event's case, by a number
@@ -51,19 +54,6 @@ token-parts t u to at e = (cc, cc)
 
 body-parts : (a b x y : ℕ) (to at : Place) → E.Body to a x ≡ E.Body at b y → (a ≡ b) × (x ≡ y) × (to ≡ at)
 body-parts a b x y to at e = (cc, cc, cc)
-
--- an instance's token, whose numbers are in it
-abbrev instanceOf : Instance → ℕ → ℕ → Token
-instanceOf i place next = tokenOf place (gist instanceKind 0 false (H.Instance i)) next
-
--- Noted of a walk's own tokens: their marks and numbers on the stacks, and their words in the buffers, with those of the bodies in them.
-pub record Kept (level first : ℕ) (sheet₀ table₀ : List ℕ) (d : List Own) (n k : ℕ) (marks numbers sheet table : List ℕ) : Type 0 where
-  pub depth : k ≡ length d
-  pub many : n ≡ first + countIn d
-  pub marked : take k marks ≡ marksOf (tokensOf d)
-  pub numbered : take k numbers ≡ numbersOf first d
-  pub words : sheet ≡ sets sheet₀ (first * 2) (sheetOwn level d)
-  pub owners : table ≡ tableOwn first d table₀
 
 snoc-length : (d : List Own) (o : Own) → length (d ++ (o ∷ [])) ≡ length d + 1
 snoc-length d o = length-append d (o ∷ []) ∙ omega arith
@@ -123,31 +113,15 @@ module _ (level first : ℕ) (sheet₀ table₀ : List ℕ) where
       }
 
   module _ (s : List ℕ) (inner : Inner) (end : ℕ) (f : Flags) (whole : Answer (List Own)) where
-    -- between tokens: the rest of the walk is what follows the tokens that are noted
-    pub record Going (at n k : ℕ) (marks numbers sheet table : List ℕ) : Type 0 where
-      pub done : List Own
-      pub kept : Kept level first sheet₀ table₀ done n k marks numbers sheet table
-      pub rest : whole ≡ prepended done (nestAt s inner end f n at)
-      pub low : n ≤ at
-      pub high : at ≤ length s
+    abbrev Going : ℕ → ℕ → ℕ → List ℕ → List ℕ → List ℕ → List ℕ → Type 0
+    Going at n k marks numbers sheet table = going.Going level first sheet₀ table₀ s inner end f whole at n k marks numbers sheet table
 
     -- what follows an instance's values that are left
     abbrev afterValues : List Own → Instance → ℕ → List Entry → ℕ → List Entry → ℕ → Answer (List Own)
     afterValues d i place c n l last = prepended (d ++ (own (instanceOf i place last) (c ++ l) ∷ [])) (nestAt s inner end f (n + length l) last)
 
-    -- among an instance's values: the instance is the last token that is noted
-    pub record Among (place : ℕ) (v : Values) (n at k : ℕ) (marks numbers sheet table : List ℕ) : Type 0 where
-      pub done : List Own
-      pub instance : Instance
-      pub so-far : ℕ
-      pub held : List Entry
-      pub kept : Kept level first sheet₀ table₀ (done ++ (own (instanceOf instance place so-far) held ∷ [])) n k marks numbers sheet table
-      pub number : at ≡ first + countIn done
-      pub rest : whole ≡ (valuesFrom s inner n (v .table) (v .at) (v .left) then afterValues done instance place held n)
-      pub low : n ≤ v .at
-      pub high : v .at ≤ length s
-      pub stands : v .table + 4 * v .left ≤ length s
-      pub after : place < v .at
+    abbrev Among : ℕ → Values → ℕ → ℕ → ℕ → List ℕ → List ℕ → List ℕ → List ℕ → Type 0
+    Among place v n at k marks numbers sheet table = going.Among level first sheet₀ table₀ s inner end f whole place v n at k marks numbers sheet table
 
     abbrev pub Stands : Place → ℕ → ℕ → ℕ → List ℕ → List ℕ → List ℕ → List ℕ → Type 0
     Stands (P.Between at) n last k marks numbers sheet table = Going at n k marks numbers sheet table
@@ -603,11 +577,6 @@ module _ (level first : ℕ) (sheet₀ table₀ : List ℕ) where
             let x = h .next in
             held-refused (h .instance) (h .values) (h .among) x (h .is) j p (h .coded) (ap (λ (y : ℕ). inner n y (x .size)) (h .starts) ∙ ap (inner n at) (h .sized) ∙ q)
 
-    -- as many own tokens as are on the stacks are among those numbered
-    few : (d : List Own) → length d ≤ countIn d
-    few [] = omega arith
-    few (o ∷ d) = omega (arith, few d)
-
     pub stands-few : (place : Place) (n last k : ℕ) (marks numbers sheet table : List ℕ) → Stands place n last k marks numbers sheet table → first + k ≤ n
     stands-few (P.Between at) n last k marks numbers sheet table g = omega (arith, g .kept .depth, g .kept .many, few (g .done))
     stands-few (P.Inside place v) n last k marks numbers sheet table g =
@@ -617,6 +586,10 @@ module _ (level first : ℕ) (sheet₀ table₀ : List ℕ) where
     pub stands-short : (place : Place) (n last k : ℕ) (marks numbers sheet table : List ℕ) → Stands place n last k marks numbers sheet table → n ≤ length s
     stands-short (P.Between at) n last k marks numbers sheet table g = omega (arith, g .low, g .high)
     stands-short (P.Inside place v) n last k marks numbers sheet table g = omega (arith, g .low, g .high)
+
+    pub stands-near : (place : Place) (n last k : ℕ) (marks numbers sheet table : List ℕ) → Stands place n last k marks numbers sheet table → Near s place n
+    stands-near (P.Between at) n last k marks numbers sheet table g = (g .low, g .high)
+    stands-near (P.Inside place v) n last k marks numbers sheet table g = tt {0}
 
     -- a token is noted only where there is room for it
     pub token-room : (left : ℕ) (room : Bool) (place to : Place) (t : Token) → eventAt s end f left room place ≡ E.Token to t → room ≡ true
@@ -641,3 +614,93 @@ module _ (level first : ℕ) (sheet₀ table₀ : List ℕ) where
             by-code false b q = differs (E.Moved (P.Inside place (x .rest))) (E.Token to t) q (λ z. omega arith)
         by-next (gives nothing) q = differs (E.Ended (P.Between (v .at)) (instanceToken place (v .at))) (E.Token to t) q (λ z. omega arith)
         by-next (refuses j p) q = differs (E.Refused (refusalOf j p)) (E.Token to t) q (λ z. omega arith)
+
+pub less-than : (x y z : ℕ) → x < y → y ≤ z → x < z
+less-than x y z a b = omega arith
+
+-- what a run of tokens does: nothing, one token more, or a header
+module _ (s : List ℕ) (end : ℕ) (f : Flags) (level at n k : ℕ) (marks numbers sheet : List ℕ) where
+  pub run-from : {m : ℕ} → n ≡ m → Carries s end f level at n k marks numbers sheet at m k marks numbers sheet
+  run-from e first sheet₀ table₀ table inner whole g = subst (λ (z : ℕ). going.Going level first sheet₀ table₀ s inner end f whole at z k marks numbers sheet table) e g
+
+  pub run-on : (here i m m′ : ℕ) (marks′ numbers′ sheet′ : List ℕ) → m ≡ m′ → Carries s end f level at n k marks numbers sheet here m i marks′ numbers′ sheet′
+      → Carries s end f level at n k marks numbers sheet here m′ i marks′ numbers′ sheet′
+  run-on here i m m′ marks′ numbers′ sheet′ e h first sheet₀ table₀ table inner whole g =
+      subst (λ (z : ℕ). going.Going level first sheet₀ table₀ s inner end f whole here z i marks′ numbers′ sheet′ table) e (h first sheet₀ table₀ table inner whole g)
+
+token-spans-of : (s : List ℕ) (end : ℕ) (f : Flags) (at : ℕ) (x : Answer Seen) → sightAt s end f at ≡ x → Sees at (length s) x
+token-spans-of s end f at x e = subst (Sees at (length s)) e (sight-sees s end f at)
+
+module _ (s : List ℕ) (end : ℕ) (f : Flags) (at : ℕ) where
+  pub token-spans : (t : Token) (next : ℕ) → sightAt s end f at ≡ given (met (handed t)) next → (at < next) × (next ≤ length s)
+  token-spans t next e = token-spans-of s end f at (given (met (handed t)) next) e
+
+  -- a token that has no place on the stacks
+  pub full-seen : (room : Bool) (t : Token) (next : ℕ) → room ≡ false → sightAt s end f at ≡ given (met (handed t)) next → fullEvent ≡ seenEvent room at (sightAt s end f at)
+  full-seen room t next r e = ap (λ (b : Bool). tokenEvent b t (P.Between next)) (sym r) ∙ ap (seenEvent room at) (sym e)
+
+  pub header-spans : (next : ℕ) → sightAt s end f at ≡ given (met header) next → (at < next) × (next ≤ length s)
+  header-spans next e = token-spans-of s end f at (given (met header) next) e
+
+module _ (s : List ℕ) (end : ℕ) (f : Flags) (level : ℕ) (small : length s ≤ 65536) (at n k : ℕ) (marks numbers sheet : List ℕ) (here m i : ℕ) (marks₁ numbers₁ sheet₁ : List ℕ)
+    (h : Carries s end f level at n k marks numbers sheet here m i marks₁ numbers₁ sheet₁) where
+  pub run-token : (t : Token) (next : ℕ) (marks₂ numbers₂ sheet₂ : List ℕ) → sightAt s end f here ≡ given (met (handed t)) next → i < length marks₁ → i < length numbers₁
+      → marks₂ ≡ set marks₁ i (markOf t) → numbers₂ ≡ set numbers₁ i m → sheet₂ ≡ sets sheet₁ (m * 2) (wordsAt level t)
+      → Carries s end f level at n k marks numbers sheet next (m + 1) (i + 1) marks₂ numbers₂ sheet₂
+  run-token t next marks₂ numbers₂ sheet₂ e l j a b c first sheet₀ table₀ table inner whole g =
+      on-token level first sheet₀ table₀ s inner end f whole small m 0 i marks₁ numbers₁ sheet₁ table 0 true t (P.Between next) marks₂ numbers₂ sheet₂ l j a b c (P.Between here)
+      (h first sheet₀ table₀ table inner whole g) (ap (seenEvent true here) e) .0
+
+  pub run-header : (next : ℕ) → sightAt s end f here ≡ given (met header) next → Carries s end f level at n k marks numbers sheet next m i marks₁ numbers₁ sheet₁
+  run-header next e first sheet₀ table₀ table inner whole g =
+      on-moved level first sheet₀ table₀ s inner end f whole small m 0 i marks₁ numbers₁ sheet₁ table 0 true (P.Between here) (P.Between next)
+      (h first sheet₀ table₀ table inner whole g) (ap (seenEvent true here) e) .0
+
+-- and of values: one more that holds no body
+pub value-passed : (s : List ℕ) → length s ≤ 65536 → (place : ℕ) (v here : Values) → Passes s place v here → (x : ValueNext) → nextOf s here ≡ gives (just x)
+    → eqb (x .value .code) binXml ≡ false → Passes s place v (x .rest)
+value-passed s small place v here h x e c level first sheet₀ table₀ inner end f whole n last k marks numbers sheet table g =
+    on-moved level first sheet₀ table₀ s inner end f whole small n last k marks numbers sheet table 0 true (P.Inside place here) (P.Inside place (x .rest))
+    (h level first sheet₀ table₀ inner end f whole n last k marks numbers sheet table g)
+    (ap (valueEvent 0 place here) e
+    ∙ ap (λ (b : Bool). pick b (pick (eqb 0 0) (E.Refused (refusalOf ninthLevel (x .value .start))) (E.Body (P.Inside place (x .rest)) (x .value .start) (x .size))) (E.Moved (P.Inside place (x .rest)))) c)
+    .0
+
+-- where a walk stands when it has met something, and what it meets there
+module _ (left first : ℕ) (sheet₀ table₀ s : List ℕ) (inner : Inner) (end : ℕ) (f : Flags) (whole : Answer (List Own)) where
+  pub record Reached (place : Place) (n last k : ℕ) (marks numbers sheet marks′ numbers′ sheet′ table : List ℕ) (r : Stop) : Type 0 where
+    pub from : Place
+    pub met : r .event ≡ eventAt s end f left (ltb (r .k) (length marks′)) from
+    pub stands : Stands (deepestBody - left) first sheet₀ table₀ s inner end f whole from (r .n) last (r .k) marks′ numbers′ sheet′ table
+    pub less : leftOf (deepestBody - left) first sheet₀ table₀ s inner end f whole from ≤ leftOf (deepestBody - left) first sheet₀ table₀ s inner end f whole place
+
+  abbrev Inside : ℕ → Values → ℕ → List ℕ → ℕ → ℕ → List ℕ → List ℕ → List ℕ → Type 0
+  Inside at v last table n k marks numbers sheet = Stands (deepestBody - left) first sheet₀ table₀ s inner end f whole (P.Inside at v) n last k marks numbers sheet table
+
+  pub reached : (place : Place) (n last k : ℕ) (marks numbers sheet marks′ numbers′ sheet′ table : List ℕ) (r : Stop)
+      → Stands (deepestBody - left) first sheet₀ table₀ s inner end f whole place n last k marks numbers sheet table
+      → Meets s end f left place n k marks numbers sheet marks′ numbers′ sheet′ r → Reached place n last k marks numbers sheet marks′ numbers′ sheet′ table r
+  reached place n last k marks numbers sheet marks′ numbers′ sheet′ table r g m = by-place place g (m .at)
+    where
+      by-place : (place : Place) → Stands (deepestBody - left) first sheet₀ table₀ s inner end f whole place n last k marks numbers sheet table
+          → MetAt s end f left place n k marks numbers sheet marks′ numbers′ sheet′ r → Reached place n last k marks numbers sheet marks′ numbers′ sheet′ table r
+      by-place (P.Between at) g m =
+          record {
+            from = P.Between (m .here);
+            met = m .met;
+            stands = m .carries first sheet₀ table₀ table inner whole g;
+            less = omega (arith, m .onward);
+          }
+      by-place (P.Inside at v) g m =
+          record {
+            from = P.Inside at (m .passed .here);
+            met = m .passed .met;
+            stands =
+                m .passed .passes (deepestBody - left) first sheet₀ table₀ inner end f whole (r .n) last (r .k) marks′ numbers′ sheet′ table
+                (subst (λ (z : ℕ). Inside at v last table z (r .k) marks′ numbers′ sheet′) (sym (m .n-same))
+                (subst (λ (z : ℕ). Inside at v last table n z marks′ numbers′ sheet′) (sym (m .k-same))
+                (subst (λ (z : List ℕ). Inside at v last table n k z numbers′ sheet′) (sym (m .marks-same))
+                (subst (λ (z : List ℕ). Inside at v last table n k marks z sheet′) (sym (m .numbers-same))
+                (subst (λ (z : List ℕ). Inside at v last table n k marks numbers z) (sym (m .sheet-same)) g)))));
+            less = omega (arith, m .passed .fewer);
+          }

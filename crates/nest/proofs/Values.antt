@@ -38,6 +38,24 @@ next-is s v h k =
     subst (λ (a : Answer Value). NextIs s v (nextGiven v (numberOf s (v .table) 2) a)) (sym (step-reads s (v .table) (v .at) (omega (arith, h, l)) k))
     (given-is s v (valueIn s (v .table) (v .at)) l refl))
 
+-- after a value fewer are left
+abbrev Fewer : Values → Result (Maybe ValueNext) → Type 0
+Fewer v (gives (just x)) = x .rest .left < v .left
+Fewer v (gives nothing) = Unit {0}
+Fewer v (refuses k p) = Unit {0}
+
+given-fewer : (v : Values) (size : ℕ) (a : Answer Value) → 0 < v .left → Fewer v (nextGiven v size a)
+given-fewer v size (given x next) h = omega arith
+given-fewer v size (refused k p) h = tt {0}
+
+next-fewer-in : (s : List ℕ) (v : Values) → Fewer v (nextOf s v)
+next-fewer-in s v =
+    either (Fewer v) (eqb (v .left) 0) _ _ (λ e. tt {0})
+    (λ e. given-fewer v (numberOf s (v .table) 2) (valueStep s (v .table) (v .at)) (omega (arith, eqb-false (v .left) 0 e)))
+
+pub next-fewer : (s : List ℕ) (v : Values) (x : ValueNext) → nextOf s v ≡ gives (just x) → x .rest .left < v .left
+next-fewer s v x e = subst (Fewer v) e (next-fewer-in s v)
+
 -- "Short read: on to start plus s": a value ends no earlier
 abbrev Far : ℕ → Answer Value → Type 0
 Far m (given v next) = m ≤ next

@@ -15,6 +15,7 @@ use Rattle.tokens.specs.Token.{instanceKind, gist}
 use Rattle.tokens.specs.Walk.{handed, header, over, tokenOf}
 use Rattle.tokens.specs.declared.Flags.{Flags}
 use Rattle.tokens.specs.declared.Held.the-variants as H
+use Rattle.tokens.specs.declared.Instance.{Instance}
 use Rattle.tokens.specs.declared.Token.{Token}
 use Rattle.tokens.specs.declared.Values.{Values}
 use Rattle.body.specs.Reader.{verdictOn}
@@ -42,11 +43,18 @@ abbrev pub instanceToken : ℕ → ℕ → Token
 instanceToken place next = tokenOf place (gist instanceKind 0 false H.Nothing) next
 
 -- a token needs a place on the stacks
+abbrev pub fullEvent : Event
+fullEvent = E.Refused (refusalOf full 0)
+
 abbrev pub tokenEvent : Bool → Token → Place → Event
-tokenEvent room t to = pick room (E.Token to t) (E.Refused (refusalOf full 0))
+tokenEvent room t to = pick room (E.Token to t) fullEvent
+
+-- an instance's head
+abbrev pub beganEvent : Bool → ℕ → Instance → ℕ → Event
+beganEvent room at i next = tokenEvent room (instanceToken at next) (P.Inside at (valuesOf i))
 
 abbrev pub seenEvent : Bool → ℕ → Answer Seen → Event
-seenEvent room at (given (begun i) next) = tokenEvent room (instanceToken at next) (P.Inside at (valuesOf i))
+seenEvent room at (given (begun i) next) = beganEvent room at i next
 seenEvent room at (given (met (handed t)) next) = tokenEvent room t (P.Between next)
 seenEvent room at (given (met header) next) = E.Moved (P.Between next)
 seenEvent room at (given (met over) next) = E.Over (P.Between next)
@@ -104,9 +112,9 @@ abbrev pub verdictTable : List ℕ → List ℕ → Result (List ℕ) → List �
 verdictTable own numbers (gives words) table = setAt own (map (renumbered numbers) words) table
 verdictTable own numbers (refuses k p) table = table
 
--- the numbers of a walk's own tokens are below the next one, which a stream has
+-- the numbers of a walk's own tokens are below the next one, which a stream has; where no others are numbered, each is its place
 abbrev pub Numbered : List ℕ → ℕ → ℕ → Type 0
-Numbered numbers k n = (n ≤ 65536) × ((i : ℕ) → i < k → getD numbers i 0 < n)
+Numbered numbers k n = (n ≤ 65536) × ((i : ℕ) → i < k → getD numbers i 0 < n) × (n ≡ k → (i : ℕ) → i < k → getD numbers i 0 ≡ i)
 
 -- What a window's walk leaves where it is read: the words of its tokens from number n on.
 pub record Laid (x : Result (List Entry)) (n m : ℕ) (sheet₀ sheet table₀ table : List ℕ) : Type 0 where

@@ -6,6 +6,7 @@ use cursor::Counted;
 use cursor::Refusal;
 use tokens::Flags;
 use tokens::Held;
+use tokens::Instance;
 use tokens::NextValue;
 use tokens::Sight;
 use tokens::Token;
@@ -21,11 +22,10 @@ ghost use lib.Seq.{sets};
 ghost use Rattle.cursor.specs.Answer.{refuses, pick};
 ghost use Rattle.cursor.specs.Answers.{countAnswer};
 ghost use Rattle.sheet.specs.Sheet.{markOf};
-ghost use Rattle.tokens.specs.Instance.{nextOf};
-ghost use Rattle.tokens.specs.Sight.{sightAt};
 ghost use Rattle.body.specs.Reader.{verdictOn};
 ghost use Rattle.nest.specs.Nested.{pastValue, deepestBody, innerFlags, wordsAt, renumbered};
-ghost use Rattle.nest.specs.Pieces.{full, lastOf, instanceToken, tokenEvent, seenEvent, heldEvent, valueEvent, eventAt, setAt, numbersTo, verdictAnswer, verdictTable, Numbered, WalkRead, windowBy};
+ghost use Rattle.nest.specs.Going.{Near, Stopped, Passed, Meets};
+ghost use Rattle.nest.specs.Pieces.{full, lastOf, instanceToken, fullEvent, beganEvent, heldEvent, setAt, numbersTo, verdictAnswer, verdictTable, Numbered, WalkRead, windowBy};
 
 // Not a refusal of document 01: the stacks are full.
 pub const FULL: u8 = 0;
@@ -44,15 +44,23 @@ pub enum Place {
 // What a walk meets next, and where it stands then. (The place comes first in each, and a refusal has a byte and a position as a place has:
 // the answers lie over each other, and where a byte of one lay over a position of another, a record took half as long again.)
 pub enum Event {
-    // A token, or an instance's token so far, as long as its head.
+    // An instance's token so far, as long as its head. (The other tokens are noted as they are read, by `run`.)
     Token(Place, Token),
     // A body, where its value starts, and its size.
     Body(Place, usize, usize),
     // An instance's token, all its values having been read.
     Ended(Place, Token),
+    // A header, or a value that holds no body. (`run` and `among` go on by themselves.)
     Moved(Place),
     Over(Place),
     Refused(Refusal),
+}
+
+// Where a walk stops: what it meets there, how many tokens have been numbered, and how many of its own there are.
+pub struct Stop {
+    pub event: Event,
+    pub n: usize,
+    pub k: usize,
 }
 
 // The walk of a window: its tokens' words, those of the bodies in its values after their instance, and the owners of each, from number `first`
@@ -80,7 +88,11 @@ pub(crate) fn walk(
     let mut own = first;
     let mut k: usize = 0;
     loop {
-        match next(s, end, flags, left, k < marks.len(), place) {
+        let stop = next(s, end, flags, left, place, n, k, marks, numbers, sheet);
+        n = stop.n;
+        k = stop.k;
+        let event = stop.event;
+        match event {
             Event::Token(on, t) => {
                 note(marks, numbers, sheet, k, n, left, t);
                 own = n;
@@ -141,58 +153,130 @@ fn without_dependencies(flags: Flags) -> Flags
     }
 }
 
-// What the walk meets next; a token needs a place on the stacks.
-fn next(s: &[u8], end: usize, flags: Flags, left: u64, room: bool, place: Place) -> Event
-    ensures { λ r. ⌜ r ≡ eventAt (now (s .entry)) end flags left room place ⌝ }
+// What the walk meets next that is no token of a run.
+fn next(
+    s: &[u8],
+    end: usize,
+    flags: Flags,
+    left: u64,
+    place: Place,
+    n: usize,
+    k: usize,
+    marks: &mut [u8],
+    numbers: &mut [u32],
+    sheet: &mut [u64],
+) -> Stop
+    requires { ⌜ (left ≤ deepestBody) × (length (now s) ≤ 65536) × Near (now s) place n ⌝ }
+    requires { ⌜ (length (now marks) ≡ length (now numbers)) × (k ≤ length (now marks)) × (k ≤ n) ⌝ }
+    ensures { λ r. ⌜ Meets (now (s .entry)) end flags left place n k (now (marks .entry)) (now (numbers .entry)) (now (sheet .entry)) (now (marks .exit)) (now (numbers .exit)) (now (sheet .exit)) r ⌝ }
 {
     match place {
-        Place::Between(at) => between(s, at, end, flags, room),
-        Place::Inside(at, values) => among(s, at, values, left),
+        Place::Between(at) => run(s, at, end, flags, left, n, k, marks, numbers, sheet),
+        Place::Inside(at, values) => Stop {
+            event: among(s, at, values, left),
+            n: n,
+            k: k,
+        },
     }
 }
 
-fn between(s: &[u8], at: usize, end: usize, flags: Flags, room: bool) -> Event
-    ensures { λ r. ⌜ r ≡ seenEvent room at (sightAt (now (s .entry)) end flags at) ⌝ }
+// The tokens from a position on that are no instance, each noted, up to what is none or has no place on the stacks. (Each is matched where it
+// was read: handed on as an event it went through memory, and a token took 150 instructions where it takes 84.)
+fn run(
+    s: &[u8],
+    at: usize,
+    end: usize,
+    flags: Flags,
+    left: u64,
+    n: usize,
+    k: usize,
+    marks: &mut [u8],
+    numbers: &mut [u32],
+    sheet: &mut [u64],
+) -> Stop
+    requires { ⌜ (left ≤ deepestBody) × (length (now s) ≤ 65536) × (n ≤ at) × (at ≤ length (now s)) ⌝ }
+    requires { ⌜ (length (now marks) ≡ length (now numbers)) × (k ≤ length (now marks)) × (k ≤ n) ⌝ }
+    ensures { λ r. ⌜ Stopped (now (s .entry)) end flags left at n k (now (marks .entry)) (now (numbers .entry)) (now (sheet .entry)) (now (marks .exit)) (now (numbers .exit)) (now (sheet .exit)) r ⌝ }
 {
-    match tokens::look(s, at, end, flags) {
-        Sight::Token(t, c) => noted(t, Place::Between(c.at), room),
-        Sight::Instance(i, c) => noted(
-            instance_token(at, c.at),
-            Place::Inside(at, Values::of(i)),
-            room,
-        ),
-        Sight::Header(c) => Event::Moved(Place::Between(c.at)),
-        Sight::Over(c) => Event::Over(Place::Between(c.at)),
-        Sight::Refused(r) => Event::Refused(r),
+    let mut here = at;
+    let ahead = n - k;
+    let mut i = k;
+    loop {
+        match tokens::look(s, here, end, flags) {
+            Sight::Token(t, c) => {
+                if marks.len() <= i {
+                    return Stop {
+                        event: no_place(),
+                        n: ahead + i,
+                        k: i,
+                    };
+                }
+                note(marks, numbers, sheet, i, ahead + i, left, t);
+                here = c.at;
+                i += 1;
+            }
+            Sight::Instance(x, c) => return Stop {
+                event: began(here, x, c.at, i < marks.len()),
+                n: ahead + i,
+                k: i,
+            },
+            Sight::Header(c) => here = c.at,
+            Sight::Over(c) => return Stop {
+                event: Event::Over(Place::Between(c.at)),
+                n: ahead + i,
+                k: i,
+            },
+            Sight::Refused(r) => return Stop {
+                event: Event::Refused(r),
+                n: ahead + i,
+                k: i,
+            },
+        }
     }
 }
 
-fn noted(t: Token, to: Place, room: bool) -> Event
-    ensures { λ r. ⌜ r ≡ tokenEvent room t to ⌝ }
+// An instance's head, from its place to `next`: its token so far needs a place on the stacks.
+fn began(place: usize, i: Instance, next: usize, room: bool) -> Event
+    ensures { λ r. ⌜ r ≡ beganEvent room place i next ⌝ }
 {
     if room {
-        return Event::Token(to, t);
+        return Event::Token(
+            Place::Inside(place, Values::of(i)),
+            instance_token(place, next),
+        );
     }
+    no_place()
+}
+
+fn no_place() -> Event
+    ensures { λ r. ⌜ r ≡ fullEvent ⌝ }
+{
     Event::Refused(Refusal {
         number: FULL,
         place: 0,
     })
 }
 
-// The next value of the instance at `at`.
+// The next value of the instance at `at` that holds a body, or what ends its values; the others are passed.
 fn among(s: &[u8], at: usize, values: Values, left: u64) -> Event
-    ensures { λ r. ⌜ r ≡ valueEvent left at values (nextOf (now (s .entry)) values) ⌝ }
+    requires { ⌜ length (now s) ≤ 65536 ⌝ }
+    ensures { λ r. ⌜ Passed (now (s .entry)) left at values r ⌝ }
 {
-    match values.next(s) {
-        NextValue::Value(v, size, rest) => held(
-            v.code,
-            v.start,
-            size,
-            Place::Inside(at, rest),
-            left,
-        ),
-        NextValue::Done => Event::Ended(Place::Between(values.at), instance_token(at, values.at)),
-        NextValue::Refused(r) => Event::Refused(r),
+    let mut here = values;
+    loop {
+        match here.next(s) {
+            NextValue::Value(v, size, rest) => {
+                if v.code == Kind::BIN_XML {
+                    return held(v.code, v.start, size, Place::Inside(at, rest), left);
+                }
+                here = rest;
+            }
+            NextValue::Done => return Event::Ended(
+                Place::Between(here.at),
+                instance_token(at, here.at),
+            ),
+            NextValue::Refused(r) => return Event::Refused(r),
+        }
     }
 }
 
@@ -262,9 +346,26 @@ fn put_words(sheet: &mut [u64], n: usize, left: u64, t: Token)
     requires { ⌜ (n ≤ 65536) × (left ≤ deepestBody) ⌝ }
     ensures { λ _. ⌜ now (sheet .exit) ≡ sets (now (sheet .entry)) (n * 2) (wordsAt (deepestBody - left) t) ⌝ }
 {
+    put_both(
+        sheet,
+        n,
+        sheet::first_word(t) + (8 - left) * 0x10,
+        sheet::second_word(t),
+    );
+}
+
+// Both, or the first alone where there is room for one.
+fn put_both(sheet: &mut [u64], n: usize, first: u64, second: u64)
+    requires { ⌜ n ≤ 65536 ⌝ }
+    ensures { λ _. ⌜ now (sheet .exit) ≡ sets (now (sheet .entry)) (n * 2) (first ∷ second ∷ []) ⌝ }
+{
     let at = n * 2;
-    put_word(sheet, at, sheet::first_word(t) + (8 - left) * 0x10);
-    put_word(sheet, at + 1, sheet::second_word(t));
+    if n < sheet.len() / 2 {
+        sheet[at] = first;
+        sheet[at + 1] = second;
+        return;
+    }
+    put_word(sheet, at, first);
 }
 
 fn put_word(sheet: &mut [u64], at: usize, word: u64)
@@ -358,6 +459,46 @@ fn judged(
 
 // The owners of a body's own tokens, numbered through.
 fn lay(numbers: &[u32], k: usize, n: usize, words: &[u32], table: &mut [u32])
+    requires { ⌜ (k ≤ length (now numbers)) × (k ≤ length (now words)) ⌝ }
+    requires { ⌜ Numbered (now numbers) k n ⌝ }
+    ensures { λ _. ⌜ now (table .exit) ≡ setAt (take k (now (numbers .entry))) (map (renumbered (numbersTo k n (now (numbers .entry)))) (take k (now (words .entry)))) (now (table .entry)) ⌝ }
+{
+    if n == k {
+        if k <= table.len() {
+            lay_alone(numbers, k, n, words, table);
+            return;
+        }
+    }
+    lay_each(numbers, k, n, words, table);
+}
+
+// Where no token but the body's own is numbered, the number of each is its place: the words stay. (The numbers are not read, and a store needs
+// no test, so that the machine code goes through several words at once.)
+fn lay_alone(numbers: &[u32], k: usize, n: usize, words: &[u32], table: &mut [u32])
+    requires { ⌜ (k ≤ length (now numbers)) × (k ≤ length (now words)) × (k ≤ length (now table)) × (n ≡ k) ⌝ }
+    requires { ⌜ Numbered (now numbers) k n ⌝ }
+    ensures { λ _. ⌜ now (table .exit) ≡ setAt (take k (now (numbers .entry))) (map (renumbered (numbersTo k n (now (numbers .entry)))) (take k (now (words .entry)))) (now (table .entry)) ⌝ }
+{
+    let mut i: usize = 0;
+    while i < k {
+        table[i] = alone(numbers, k, n, words[i]);
+        i += 1;
+    }
+}
+
+// A word by its owner's own number; past the last one it is as a number that is not there.
+fn alone(numbers: &[u32], k: usize, n: usize, word: u32) -> u32
+    requires { ⌜ (k ≤ length (now numbers)) × (n ≡ k) ⌝ }
+    requires { ⌜ Numbered (now numbers) k n ⌝ }
+    ensures { λ r. ⌜ r ≡ renumbered (numbersTo k n (now (numbers .entry))) word ⌝ }
+{
+    if k as u32 + 1 < word {
+        return 1;
+    }
+    word
+}
+
+fn lay_each(numbers: &[u32], k: usize, n: usize, words: &[u32], table: &mut [u32])
     requires { ⌜ (k ≤ length (now numbers)) × (k ≤ length (now words)) ⌝ }
     requires { ⌜ Numbered (now numbers) k n ⌝ }
     ensures { λ _. ⌜ now (table .exit) ≡ setAt (take k (now (numbers .entry))) (map (renumbered (numbersTo k n (now (numbers .entry)))) (take k (now (words .entry)))) (now (table .entry)) ⌝ }
