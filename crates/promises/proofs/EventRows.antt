@@ -31,14 +31,14 @@ abbrev Refused : {A : Type 0} → Result A → Type 0
 Refused (gives x) = ⊥
 Refused (refuses k p) = Unit {0}
 
-never : {A : Type 0} {k p : ℕ} {a : A} → refuses k p ≡ gives a → ⊥
+pub never : {A : Type 0} {k p : ℕ} {a : A} → refuses k p ≡ gives a → ⊥
 never e = subst Refused e tt
 
 abbrev inside : {A : Type 0} → A → Result A → A
 inside d (gives x) = x
 inside d (refuses k p) = d
 
-gives-is : {A : Type 0} {a b : A} → gives a ≡ gives b → a ≡ b
+pub gives-is : {A : Type 0} {a b : A} → gives a ≡ gives b → a ≡ b
 gives-is {a = a} e = ap (inside a) e
 
 -- rows behind one another
@@ -46,7 +46,7 @@ each-append : {P : List ℕ → Type 0} {a : List ℕ} (c : List ℕ) → EachRo
 each-append c no-row y = y
 each-append c (a-row row rest p r e) y = a-row row (rest ++ c) p (each-append c r y) (ap (λ (l : List ℕ). l ++ c) e ∙ append-assoc row rest c)
 
-each-map : {P Q : List ℕ → Type 0} {words : List ℕ} → ((row : List ℕ) → P row → Q row) → EachRow P words → EachRow Q words
+pub each-map : {P Q : List ℕ → Type 0} {words : List ℕ} → ((row : List ℕ) → P row → Q row) → EachRow P words → EachRow Q words
 each-map f no-row = no-row
 each-map f (a-row row rest p r e) = a-row row rest (f row p) (each-map f r) e
 
@@ -148,7 +148,7 @@ IsFalse true = ⊥
 IsFalse false = Unit {0}
 
 -- a substitution that is not past the count
-not-past : (a b : Bool) → a ≡ true → a && b ≡ false → b ≡ false
+pub not-past : (a b : Bool) → a ≡ true → a && b ≡ false → b ≡ false
 not-past true b e f = f
 not-past false b e f = absurd (subst IsFalse e tt)
 

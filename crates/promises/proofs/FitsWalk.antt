@@ -16,6 +16,7 @@ use Rattle.value.specs.Kinds.{knownCode}
 use Rattle.value.specs.Value.{unsizedAt}
 use Rattle.tokens.specs.Token.{typeAt, substitutionAt, namedAt, openAt, textTokenAt, valueTokenAt}
 use Rattle.tokens.specs.Instance as I
+use Rattle.tokens.specs.Sight.{instanceThere, sightAt}
 use Rattle.tokens.specs.Table.{gistAt}
 use Rattle.tokens.specs.Pieces.{dependencyAt, listSizeAt}
 use Rattle.tokens.specs.Walk.{Met, handed, header, over, headerAt, turnAt, onward, stepFrom, stepAt, Walked, ok, bad, before, after, walkFrom, walkAt, walkIn, walkOf}
@@ -27,6 +28,7 @@ use Rattle.tokens.proofs.Steps.{step-grows}
 use Rattle.promises.specs.Packed.{Bytes}
 use Rattle.promises.proofs.Fits.{Small, Fits, on, number-below, read-fits, number-then, set-fits}
 use Rattle.promises.proofs.FitsValue.{text-fits, middle-fits, unsized-fits, name-fits}
+use Rattle.promises.proofs.NestTurns.{there-byte}
 
 module _ (s : List ℕ) (bytes : Bytes s) (short : length s ≤ 65536) where
   abbrev In : {A : Type 0} → Answer A → Type 0
@@ -74,7 +76,7 @@ module _ (s : List ℕ) (bytes : Bytes s) (short : length s ≤ 65536) where
   table (suc n) at h = on (length s) (I.descriptorAt s at) _ (descriptor at h) (λ x m k. table n m k)
 
   -- a value's size has two bytes
-  value : (at-table at : ℕ) → at ≤ length s → In (I.valueIn s at-table at)
+  pub value : (at-table at : ℕ) → at ≤ length s → In (I.valueIn s at-table at)
   value at-table at h =
       middle-fits s bytes short at (numberOf s (at-table + 2) 1) (numberOf s at-table 2) h (omega (arith, number-below s at-table 2 bytes))
 
@@ -137,6 +139,13 @@ module _ (s : List ℕ) (bytes : Bytes s) (short : length s ≤ 65536) where
       (λ e. on (length s) (gistAt s f b n) _ (gist-fits f b n k) (λ x m l. l)))))
       (λ w. h)
 
+  -- and a turn that leaves an instance's values
+  pub sight-fits : (end : ℕ) (f : Flags) (at : ℕ) → at ≤ length s → In (sightAt s end f at)
+  sight-fits end f at h =
+      either In (instanceThere s end at) _ _
+      (λ e. on (length s) (I.instanceHeadAt s (at + 1)) _ (head (at + 1) (there-byte s end f at e .1)) (λ i n k. k))
+      (λ e. on (length s) (turnAt s end f at) _ (turn-fits end f at h) (λ m n k. k))
+
   onward-fits : (x : Answer Met) (go : ℕ → Answer Met) → In x → ((n : ℕ) → n ≤ length s → In (go n)) → In (onward x go)
   onward-fits (given (handed t) n) go h g = h
   onward-fits (given header n) go h g = g n h
@@ -180,15 +189,17 @@ module _ (s : List ℕ) (bytes : Bytes s) where
   more most high (ok l) e h = omega arith
   more most high (bad k p) e h = h
 
+  -- the walk from a position in a stream no longer than a chunk
+  pub at-fits : length s ≤ 65536 → (end : ℕ) (f : Flags) (at : ℕ) → at ≤ length s → WalkFits 65536 (walkAt s end f at)
+  at-fits short end f at h =
+      more (length s - at) 65536 (walkAt s end f at) (omega arith) (from-fits short (suc (length s - at)) end f at h)
+
   -- the walk of any stream of bytes, from a start of 32 bits
   pub walk-fits : (start len : ℕ) (f : Flags) → start < 2 ^ 32 → WalkFits 65536 (walkOf s start len f)
   unfolding walkOf
   walk-fits start len f h =
       either (λ x. WalkFits 65536 (walkIn s f x)) (leb (length s) 65536) _ _
       (λ w. either (λ x. WalkFits 65536 (walkIn s f x)) (leb start (length s)) _ _
-      (λ v.
-      let short = leb-true (length s) 65536 w in
-      more (length s - start) 65536 (walkAt s (start + len) f start) (omega arith)
-      (from-fits short (suc (length s - start)) (start + len) f start (leb-true start (length s) v)))
+      (λ v. at-fits (leb-true (length s) 65536 w) (start + len) f start (leb-true start (length s) v))
       (λ v. (omega arith, omega arith)))
       (λ w. (omega arith, omega arith))

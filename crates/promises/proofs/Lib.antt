@@ -55,8 +55,14 @@ pub mod NestSound
 pub mod NestComplete
 pub mod NestEach
 pub mod NestRoom
+pub mod PackedNest
 pub mod OfNest
 pub mod NestSamples
 pub mod EventOne
 pub mod EventRows
+pub mod FitsEvent
+pub mod PackedEvent
+pub mod EventValues
+pub mod EventStands
+pub mod EventSample
 pub mod OfEvent

@@ -82,7 +82,7 @@ abbrev pub Lies : List ℕ → Inner → Type 0
 Lies s inner = (n start size : ℕ) → start ≤ length s → Held start (start + size) (inner n start size)
 
 module _ (s : List ℕ) (inner : Inner) (lies : Lies s inner) where
-  held-rises : (b : Bool) (n start size at next : ℕ) → start ≡ at → at + size ≤ next → at ≤ length s → Held at next (heldIn inner b n start size)
+  pub held-rises : (b : Bool) (n start size at next : ℕ) → start ≡ at → at + size ≤ next → at ≤ length s → Held at next (heldIn inner b n start size)
   held-rises true n start size at next e h k =
       subst (λ (z : ℕ). Held z next (inner n start size)) e
       (held-wider start (start + size) next (inner n start size) (omega (arith, e)) (lies n start size (omega (arith, e))))
@@ -170,7 +170,7 @@ module _ (judge : List ℕ → Result (List ℕ)) where
   outer-rises high level n start end (refused k p) x = tt {0}
 
   module _ (s : List ℕ) where
-    body-lies : (left : ℕ) (inline : Bool) → Lies s (bodyAt judge s inline left)
+    pub body-lies : (left : ℕ) (inline : Bool) → Lies s (bodyAt judge s inline left)
     unfolding bodyAt
     body-lies zero inline n start size h = tt {0}
     body-lies (suc left) inline n start size h =

@@ -61,14 +61,20 @@ module _ (s : List ℕ) (end : ℕ) (f : Flags) (at : ℕ) where
   has-byte : numberOf s at 1 ≡ 0x0C → at + 1 ≤ length s
   has-byte e = elim (decLt at (length s)) [ yes h ↦ omega arith | no h ↦ absurd (omega (arith, number-none s at 1 (omega arith), e)) ]
 
+  -- where an instance's byte stands
+  pub there-byte : instanceThere s end at ≡ true → (numberOf s at 1 ≡ 0x0C) × (at + 1 ≤ length s)
+  there-byte e =
+      let b = eqb-true (numberOf s at 1) 0x0C (both-hold (ltb at end) (eqb (numberOf s at 1) 0x0C) e .1) in
+      (b, has-byte b)
+
   instance-turn : instanceThere s end at ≡ true → turnAt s end f at ≡ metToken at (instanceAt s (at + 1))
   unfolding turnAt
   instance-turn e =
       let h = both-hold (ltb at end) (eqb (numberOf s at 1) 0x0C) e in
-      let b = eqb-true (numberOf s at 1) 0x0C (h .1) in
+      let b = there-byte e in
       ap (λ (x : Bool). pick x (numberAt s at 1 then turnAfterByte s f at) (given over at)) (h .0)
-      ∙ ap (λ (x : Bool). pick x (given (numberOf s at 1) (at + 1)) (refused 3 at) then turnAfterByte s f at) (le-leb (at + 1) (length s) (has-byte b))
-      ∙ byte-instance s f at (numberOf s at 1) (at + 1) b
+      ∙ ap (λ (x : Bool). pick x (given (numberOf s at 1) (at + 1)) (refused 3 at) then turnAfterByte s f at) (le-leb (at + 1) (length s) (b .1))
+      ∙ byte-instance s f at (numberOf s at 1) (at + 1) (b .0)
 
   -- a turn: what is seen, and then the values
   pub turn-sight : turnAt s end f at ≡ (sightAt s end f at then wholly s at)

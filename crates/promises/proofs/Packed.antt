@@ -57,22 +57,31 @@ pub small-bits : (k p : ℕ) → Small k p → InBits (refuses k p)
 small-bits k p h = (h .0, omega (arith, h .1))
 
 -- sheet and owner table: a refusal by the grammar has a token's number for its place, or the number of tokens
-grammar-small : (marks : List ℕ) {k p : ℕ} → Refuses marks k p → length marks ≤ 65536 → Small k p
-grammar-small marks (no-body i x) h = (omega arith, omega (arith, x .there))
-grammar-small marks (too-deep i x) h = (omega arith, omega (arith, x .there))
-grammar-small marks (disagreeing i x) h = (omega arith, omega (arith, x .there))
-grammar-small marks (unfinished-body x) h = (omega arith, omega arith)
+pub grammar-refusal : (marks : List ℕ) {k p : ℕ} → Refuses marks k p → (k < 2 ^ 7) × (p ≤ length marks)
+grammar-refusal marks (no-body i x) = (omega arith, omega (arith, x .there))
+grammar-refusal marks (too-deep i x) = (omega arith, omega (arith, x .there))
+grammar-refusal marks (disagreeing i x) = (omega arith, omega (arith, x .there))
+grammar-refusal marks (unfinished-body x) = (omega arith, omega arith)
 
-marks-short : (l : List Token) → length l ≤ 65536 → length (marksOf l) ≤ 65536
+pub grammar-small : (marks : List ℕ) {k p : ℕ} → Refuses marks k p → length marks ≤ 65536 → Small k p
+grammar-small marks x h = let r = grammar-refusal marks x in (r .0, omega (arith, r .1))
+
+-- the count of the table's words, or 16 with the words of either
+pub both-bits : (words lent : Both) → length (words .sheet) < 2 ^ 40 → length (words .table) < 2 ^ 40 → InBits (bothAnswer (gives words) lent)
+both-bits words lent h k =
+    let table = lentAnswer (gives (words .table)) (lent .table) in
+    either (λ (a : Result ℕ). InBits (followed a table)) (leb (length (words .sheet)) (length (lent .sheet))) _ _
+    (λ e. either InBits (leb (length (words .table)) (length (lent .table))) _ _ (λ d. k) (λ d. (omega arith, k)))
+    (λ e. (omega arith, h))
+
+pub marks-short : (l : List Token) → length l ≤ 65536 → length (marksOf l) ≤ 65536
 marks-short l h = omega (arith, length-map l markOf)
 
 verdict-bits : (lent : Both) {w : Walked} {v : Result (List ℕ)} → Judged w v → WalkFits 65536 w → InBits (bothAnswer (bothOf w v) lent)
 verdict-bits lent (unread k p) h = small-bits k p h
 verdict-bits lent (read l v (a-body words x)) h =
     let n = marks-short l h in
-    either (λ (a : Result ℕ). InBits (followed a (lentAnswer (gives words) (lent .table)))) (leb (length (wordsOf l)) (length (lent .sheet))) _ _
-    (λ e. either InBits (leb (length words) (length (lent .table))) _ _ (λ d. omega (arith, x .each)) (λ d. (omega arith, omega (arith, x .each))))
-    (λ e. (omega arith, omega (arith, words-length l)))
+    both-bits (both (wordsOf l) words) lent (omega (arith, words-length l)) (omega (arith, x .each))
 verdict-bits lent (read l v (verdict.refused k p x)) h = small-bits k p (grammar-small (marksOf l) x (marks-short l h))
 
 body-bits : (lent left : Both) {w : Walked} {o : Result ℕ} → Answered lent left w o → WalkFits 65536 w → InBits o

@@ -16,3 +16,5 @@ pub mod Nests
 pub mod NestWindows
 pub mod NestSamples
 pub mod EventRows
+pub mod EventValues
+pub mod EventSample
