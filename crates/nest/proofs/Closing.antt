@@ -15,7 +15,7 @@ use Rattle.body.specs.Reader.{verdictOn}
 use Rattle.body.proofs.Answers.{verdict-right}
 use Rattle.nest.specs.Going.{Kept}
 use Rattle.nest.specs.Nested.{pastValue, ninthLevel, deepestBody, Entry, Own, innerFlags, renumbered, entriesOf, tokensOf, numbersFrom, byNumbers, closedAt, bodyAt, sheetOf, ownersOf}
-use Rattle.nest.specs.Pieces.{full, numbersOf, countIn, sheetOwn, tableOwn, setAt, numbersTo, verdictAnswer, verdictTable, Numbered, Laid, WalkRead, windowBy}
+use Rattle.nest.specs.Pieces.{full, numbersOf, countIn, sheetOwn, tableOwn, setAt, numbersTo, verdictAnswer, VerdictLaid, Numbered, Laid, WalkRead, windowBy}
 use Rattle.nest.proofs.Judging.{each-word}
 use Rattle.nest.proofs.Stacks.{few, numbers-all, numbers-length, numbers-below, numbers-alone, sheet-entries, entries-length, table-entries}
 
@@ -35,12 +35,12 @@ opened s inline n at size = refl
 pub body-deep : (s : List ℕ) (inline : Bool) (left : ℕ) → left ≡ 0 → (n at size : ℕ) → bodyAt verdictOn s inline left n at size ≡ refuses ninthLevel at
 body-deep s inline left e n at size = ap (λ (l : ℕ). bodyAt verdictOn s inline l n at size) e ∙ opened s inline n at size
 
+pub never : (b : Bool) → b ≡ true → b ≡ false → ⊥
+never b h e = let y : _≡_ {A = ℕ} 0 1 = ap (λ (b : Bool). pick b 1 0) (sym e ∙ h) in omega arith
+
 second : (a b : Bool) → (a && b) ≡ false → a ≡ true → b ≡ false
 second true b e h = e
-second false b e h = let z : _≡_ {A = Bool} false true = h in absurd (differ z)
-  where
-    differ : _≡_ {A = Bool} false true → ⊥
-    differ z = let y : _≡_ {A = ℕ} 0 1 = ap (λ (b : Bool). pick b 1 0) z in omega arith
+second false b e h = absurd (never false h refl)
 
 -- the numbers on the stack are below the next one, and where no others are numbered, each is its place
 pub kept-numbered : (level first : ℕ) (sheet₀ table₀ : List ℕ) (d : List Own) (n k : ℕ) (marks numbers sheet table : List ℕ)
@@ -81,7 +81,7 @@ module _ (s : List ℕ) (room level first : ℕ) (inside : Bool) (start end at :
   Answer-is = WalkRead s room X first inside end sheet₀ sheet table₀ table′
 
   by-verdict : (v : Result (List ℕ)) → verdictOn (take k marks) ≡ v → b ≡ false → X ≡ byNumbers level (numbersTo k n numbers) d v
-      → table′ ≡ verdictTable (take k numbers) (numbersTo k n numbers) v table → Answer-is (verdictAnswer n (numbersTo k n numbers) v)
+      → VerdictLaid (take k numbers) (numbersTo k n numbers) v table table′ → Answer-is (verdictAnswer n (numbersTo k n numbers) v)
   by-verdict (gives words) e f x t =
       let w = map (renumbered (numbersTo k n numbers)) words in
       let c : length words ≡ length d =
@@ -101,13 +101,13 @@ module _ (s : List ℕ) (room level first : ℕ) (inside : Bool) (start end at :
   by-verdict (refuses j p) e f x t = inr x
 
   by-past : (c : Bool) → b ≡ c → o ≡ pick c (refuses pastValue start) (verdictAnswer n (numbersTo k n numbers) (verdictOn (take k marks)))
-      → table′ ≡ pick c table (verdictTable (take k numbers) (numbersTo k n numbers) (verdictOn (take k marks)) table)
+      → (c ≡ false → VerdictLaid (take k numbers) (numbersTo k n numbers) (verdictOn (take k marks)) table table′)
       → X ≡ pick c (refuses pastValue start) (byNumbers level (numbersTo k n numbers) d (verdictOn (take k marks))) → Answer-is o
   by-past true e q t x = subst Answer-is (sym q) (inr x)
-  by-past false e q t x = subst Answer-is (sym q) (by-verdict (verdictOn (take k marks)) refl e x t)
+  by-past false e q t x = subst Answer-is (sym q) (by-verdict (verdictOn (take k marks)) refl e x (t refl))
 
   pub closes : o ≡ pick b (refuses pastValue start) (verdictAnswer n (numbersTo k n numbers) (verdictOn (take k marks)))
-      → table′ ≡ pick b table (verdictTable (take k numbers) (numbersTo k n numbers) (verdictOn (take k marks)) table) → Answer-is o
+      → (b ≡ false → VerdictLaid (take k numbers) (numbersTo k n numbers) (verdictOn (take k marks)) table table′) → Answer-is o
   closes q t = by-past b refl q t (ends ∙ ap (pick b (refuses pastValue start)) judge-same)
 
 -- a walk that is refused

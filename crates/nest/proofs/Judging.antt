@@ -2,14 +2,15 @@
 use mathlib.Core.Path.{_≡_, refl, sym, ap, subst, _∙_}
 use mathlib.Core.Bool.{Bool, true}
 use mathlib.Core.List.{List, map}
-use Prim.Native.Nat.{ℕ, _≤_}
+use Prim.Native.Nat.{ℕ, _≤_, _<_}
 use native.Mathlib.Omega.{arith}
 use borrow.Author.Tests.{le-leb}
 use lib.ListN.{length, getD, take}
-use lib.Seq.{sets}
+use lib.Seq.{sets, getD-take, length-take-le}
 use Rattle.cursor.specs.Answer.{Result, gives, refuses, pick}
 use Rattle.cursor.specs.Refusals.{wrongLength}
 use Rattle.sheet.proofs.Laying.{front}
+use Rattle.body.specs.Grammar.{narrow}
 use Rattle.body.specs.Marks.{countOf, unlessLong, MarksJudged}
 use Rattle.body.specs.Reader.{Out, accepted, refused, begin, wordsFrom, outcome, verdictOf, verdictOn}
 use Rattle.body.specs.Verdict.{Verdict, a-body, deepest}
@@ -17,7 +18,9 @@ use Rattle.body.specs.Verdict as verdicts
 use Rattle.body.proofs.Answers.{verdict-right}
 use Rattle.body.proofs.One.{one-verdict}
 use Rattle.nest.specs.Nested.{renumbered}
-use Rattle.nest.specs.Pieces.{setAt, verdictAnswer, verdictTable}
+use Rattle.nest.specs.Pieces.{setAt, numbersTo, verdictAnswer, VerdictLaid}
+use Rattle.nest.proofs.Numbers.{number-alone, same-words, set-run}
+use Rattle.nest.proofs.Owners.{owner-before}
 
 -- a body has a word for each token
 pub each-word : (t : List ℕ) {v : Result (List ℕ)} → Verdict t v → (words : List ℕ) → v ≡ gives words → length words ≡ length t
@@ -25,6 +28,13 @@ each-word t (a-body o r) words e =
     let q : o ≡ words = cc in
     ap length (sym q) ∙ r .each
 each-word t (verdicts.refused k p r) words e = let z : _≡_ {A = ℕ} 0 1 = cc in absurd (omega arith)
+
+-- and none is owned by a later one
+owned-before : (t : List ℕ) {v : Result (List ℕ)} → Verdict t v → (words : List ℕ) → v ≡ gives words → (i : ℕ) → i < length t → getD words i 0 ≤ i
+owned-before t (a-body o r) words e i h =
+    let q : o ≡ words = cc in
+    subst (λ (x : List ℕ). getD x i 0 ≤ i) q (owner-before t o narrow deepest r i h)
+owned-before t (verdicts.refused k p r) words e i h = let z : _≡_ {A = ℕ} 0 1 = cc in absurd (omega arith)
 
 its-words : (x : Out) (words given : List ℕ) → verdictOf x words ≡ gives given → words ≡ given
 its-words accepted words given e = cc
@@ -78,17 +88,34 @@ module _ (t lent left : List ℕ) (o : Result ℕ) (h : length t ≤ 65536) (j :
   -- what is answered of a body, and the table then
   pub laid-body : (k n : ℕ) (own numbers table₀ table : List ℕ) → length t ≡ k → k ≤ length lent → (m : ℕ) → o ≡ gives m
       → table ≡ setAt own (map (renumbered numbers) (take k left)) table₀
-      → (gives n ≡ verdictAnswer n numbers (verdictOn t)) × (table ≡ verdictTable own numbers (verdictOn t) table₀)
+      → (gives n ≡ verdictAnswer n numbers (verdictOn t)) × VerdictLaid own numbers (verdictOn t) table₀ table
   laid-body k n own numbers table₀ table c room m e q =
       let y = judged-body m e in
       let w : take k left ≡ y .0 = ap (λ (i : ℕ). take i left) (sym c) ∙ y .1 .2 (omega (arith, c, room)) in (
         ap (verdictAnswer n numbers) (sym (y .1 .0)),
-        q ∙ ap (λ (x : List ℕ). setAt own (map (renumbered numbers) x) table₀) w ∙ ap (λ (v : Result (List ℕ)). verdictTable own numbers v table₀) (sym (y .1 .0)),
+        subst (λ (v : Result (List ℕ)). VerdictLaid own numbers v table₀ table) (sym (y .1 .0))
+            (q ∙ ap (λ (x : List ℕ). setAt own (map (renumbered numbers) x) table₀) w),
+      )
+
+  -- where each number is its place, the working words are the table
+  pub laid-alone : (k n : ℕ) (numbers : List ℕ) → length t ≡ k → n ≡ k → k ≤ length numbers → ((i : ℕ) → i < k → getD numbers i 0 ≡ i) → (m : ℕ) → o ≡ gives m
+      → (gives n ≡ verdictAnswer n (numbersTo k n numbers) (verdictOn t)) × VerdictLaid (take k numbers) (numbersTo k n numbers) (verdictOn t) lent left
+  laid-alone k n numbers c a room f m e =
+      let y = judged-body m e in
+      let w = its-words (outcome true deepest begin 0 t) (wordsFrom true deepest begin 0 t) (y .0) (y .1 .0) in
+      let N = numbersTo k n numbers in
+      let l = length-take-le k numbers room in
+      let stay = same-words N k (y .0) (number-alone numbers k n room a f)
+      (λ i h. omega (arith, c, h, y .1 .1, owned-before t (verdict-right t) (y .0) (y .1 .0) i (omega (arith, h, y .1 .1)))) in
+      let run = set-run (take k numbers) (y .0) lent 0 (omega (arith, l, c, y .1 .1)) (λ i h. getD-take k numbers i 0 (omega (arith, h, l)) ∙ f i (omega (arith, h, l)) ∙ omega arith) in (
+        ap (verdictAnswer n N) (sym (y .1 .0)),
+        subst (λ (v : Result (List ℕ)). VerdictLaid (take k numbers) N v lent left) (sym (y .1 .0))
+            (noted ∙ ap (sets lent 0) w ∙ sym run ∙ ap (λ (x : List ℕ). setAt (take k numbers) x lent) (sym stay)),
       )
 
   -- and of what is refused
-  pub laid-refused : (n : ℕ) (own numbers table : List ℕ) (k p q : ℕ) → o ≡ refuses k p → q ≡ getD numbers p 0
-      → (refuses k q ≡ verdictAnswer n numbers (verdictOn t)) × (table ≡ verdictTable own numbers (verdictOn t) table)
-  laid-refused n own numbers table k p q e g =
+  pub laid-refused : (n : ℕ) (own numbers table₀ table : List ℕ) (k p q : ℕ) → o ≡ refuses k p → q ≡ getD numbers p 0
+      → (refuses k q ≡ verdictAnswer n numbers (verdictOn t)) × VerdictLaid own numbers (verdictOn t) table₀ table
+  laid-refused n own numbers table₀ table k p q e g =
       let y = judged-refused k p e in
-      (ap (refuses k) g ∙ ap (verdictAnswer n numbers) (sym y), ap (λ (v : Result (List ℕ)). verdictTable own numbers v table) (sym y))
+      (ap (refuses k) g ∙ ap (verdictAnswer n numbers) (sym y), subst (λ (v : Result (List ℕ)). VerdictLaid own numbers v table₀ table) (sym y) (tt {0}))

@@ -635,10 +635,6 @@ module _ (s : List ℕ) (end : ℕ) (f : Flags) (at : ℕ) where
   pub token-spans : (t : Token) (next : ℕ) → sightAt s end f at ≡ given (met (handed t)) next → (at < next) × (next ≤ length s)
   token-spans t next e = token-spans-of s end f at (given (met (handed t)) next) e
 
-  -- a token that has no place on the stacks
-  pub full-seen : (room : Bool) (t : Token) (next : ℕ) → room ≡ false → sightAt s end f at ≡ given (met (handed t)) next → fullEvent ≡ seenEvent room at (sightAt s end f at)
-  full-seen room t next r e = ap (λ (b : Bool). tokenEvent b t (P.Between next)) (sym r) ∙ ap (seenEvent room at) (sym e)
-
   pub header-spans : (next : ℕ) → sightAt s end f at ≡ given (met header) next → (at < next) × (next ≤ length s)
   header-spans next e = token-spans-of s end f at (given (met header) next) e
 

@@ -100,7 +100,7 @@ setAt [] words table = table
 setAt (n ∷ numbers) [] table = table
 setAt (n ∷ numbers) (w ∷ words) table = setAt numbers words (set table n w)
 
--- a verdict on k own tokens with their numbers, n having been numbered: the answer, and the table
+-- a verdict on k own tokens with their numbers, n having been numbered: the answer, and of a body the table
 abbrev pub numbersTo : ℕ → ℕ → List ℕ → List ℕ
 numbersTo k n numbers = take k numbers ++ (n ∷ [])
 
@@ -108,9 +108,9 @@ abbrev pub verdictAnswer : ℕ → List ℕ → Result (List ℕ) → Result ℕ
 verdictAnswer n numbers (gives words) = gives n
 verdictAnswer n numbers (refuses k p) = refuses k (getD numbers p 0)
 
-abbrev pub verdictTable : List ℕ → List ℕ → Result (List ℕ) → List ℕ → List ℕ
-verdictTable own numbers (gives words) table = setAt own (map (renumbered numbers) words) table
-verdictTable own numbers (refuses k p) table = table
+abbrev pub VerdictLaid : List ℕ → List ℕ → Result (List ℕ) → List ℕ → List ℕ → Type 0
+VerdictLaid own numbers (gives words) table₀ table = table ≡ setAt own (map (renumbered numbers) words) table₀
+VerdictLaid own numbers (refuses k p) table₀ table = Unit {0}
 
 -- the numbers of a walk's own tokens are below the next one, which a stream has; where no others are numbered, each is its place
 abbrev pub Numbered : List ℕ → ℕ → ℕ → Type 0

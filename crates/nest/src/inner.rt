@@ -25,7 +25,7 @@ ghost use Rattle.sheet.specs.Sheet.{markOf};
 ghost use Rattle.body.specs.Reader.{verdictOn};
 ghost use Rattle.nest.specs.Nested.{pastValue, deepestBody, innerFlags, wordsAt, renumbered};
 ghost use Rattle.nest.specs.Going.{Near, Stopped, Passed, Meets};
-ghost use Rattle.nest.specs.Pieces.{full, lastOf, instanceToken, fullEvent, beganEvent, heldEvent, setAt, numbersTo, verdictAnswer, verdictTable, Numbered, WalkRead, windowBy};
+ghost use Rattle.nest.specs.Pieces.{full, lastOf, instanceToken, fullEvent, tokenEvent, beganEvent, heldEvent, setAt, numbersTo, verdictAnswer, VerdictLaid, Numbered, WalkRead, windowBy};
 
 // Not a refusal of document 01: the stacks are full.
 pub const FULL: u8 = 0;
@@ -44,7 +44,7 @@ pub enum Place {
 // What a walk meets next, and where it stands then. (The place comes first in each, and a refusal has a byte and a position as a place has:
 // the answers lie over each other, and where a byte of one lay over a position of another, a record took half as long again.)
 pub enum Event {
-    // An instance's token so far, as long as its head. (The other tokens are noted as they are read, by `run`.)
+    // An instance's token so far, as long as its head. (The other tokens are noted as they are read, by `run`, as far as their words find room.)
     Token(Place, Token),
     // A body, where its value starts, and its size.
     Body(Place, usize, usize),
@@ -180,8 +180,9 @@ fn next(
     }
 }
 
-// The tokens from a position on that are no instance, each noted, up to what is none or has no place on the stacks. (Each is matched where it
-// was read: handed on as an event it went through memory, and a token took 150 instructions where it takes 84.)
+// The tokens from a position on that are no instance, each noted, up to what is none or finds no room. (Each is matched where it was read:
+// handed on as an event it went through memory, and a token took 150 instructions where it takes 84. And room is asked for once: a second
+// test of each token took a twentieth of the time.)
 fn run(
     s: &[u8],
     at: usize,
@@ -201,17 +202,18 @@ fn run(
     let mut here = at;
     let ahead = n - k;
     let mut i = k;
+    let room = lesser(marks.len(), span(ahead, sheet.len() / 2));
     loop {
         match tokens::look(s, here, end, flags) {
             Sight::Token(t, c) => {
-                if marks.len() <= i {
+                if room <= i {
                     return Stop {
-                        event: no_place(),
+                        event: placed(Place::Between(c.at), t, i < marks.len()),
                         n: ahead + i,
                         k: i,
                     };
                 }
-                note(marks, numbers, sheet, i, ahead + i, left, t);
+                note_whole(marks, numbers, sheet, i, ahead + i, left, t);
                 here = c.at;
                 i += 1;
             }
@@ -235,15 +237,32 @@ fn run(
     }
 }
 
-// An instance's head, from its place to `next`: its token so far needs a place on the stacks.
+fn lesser(a: usize, b: usize) -> usize
+    ensures { λ r. ⌜ r ≡ pick (ltb b a) b a ⌝ }
+{
+    if b < a {
+        return b;
+    }
+    a
+}
+
+// An instance's head, from its place to `next`: its token so far.
 fn began(place: usize, i: Instance, next: usize, room: bool) -> Event
     ensures { λ r. ⌜ r ≡ beganEvent room place i next ⌝ }
 {
+    placed(
+        Place::Inside(place, Values::of(i)),
+        instance_token(place, next),
+        room,
+    )
+}
+
+// A token needs a place on the stacks; it is noted where there is room for its words or not.
+fn placed(to: Place, t: Token, room: bool) -> Event
+    ensures { λ r. ⌜ r ≡ tokenEvent room t to ⌝ }
+{
     if room {
-        return Event::Token(
-            Place::Inside(place, Values::of(i)),
-            instance_token(place, next),
-        );
+        return Event::Token(to, t);
     }
     no_place()
 }
@@ -341,6 +360,29 @@ fn note(
     put_words(sheet, n, left, t);
 }
 
+// The same where there is room for both words.
+fn note_whole(
+    marks: &mut [u8],
+    numbers: &mut [u32],
+    sheet: &mut [u64],
+    k: usize,
+    n: usize,
+    left: u64,
+    t: Token,
+)
+    requires { ⌜ (k < length (now marks)) × (k < length (now numbers)) × (n < 65536) × (left ≤ deepestBody) ⌝ }
+    requires { ⌜ n * 2 + 1 < length (now sheet) ⌝ }
+    ensures { λ _. ⌜ now (marks .exit) ≡ set (now (marks .entry)) k (markOf t) ⌝ }
+    ensures { λ _. ⌜ now (numbers .exit) ≡ set (now (numbers .entry)) k n ⌝ }
+    ensures { λ _. ⌜ now (sheet .exit) ≡ sets (now (sheet .entry)) (n * 2) (wordsAt (deepestBody - left) t) ⌝ }
+{
+    marks[k] = sheet::mark(t);
+    numbers[k] = n as u32;
+    let at = n * 2;
+    sheet[at] = sheet::first_word(t) + (8 - left) * 0x10;
+    sheet[at + 1] = sheet::second_word(t);
+}
+
 // The words of token n.
 fn put_words(sheet: &mut [u64], n: usize, left: u64, t: Token)
     requires { ⌜ (n ≤ 65536) × (left ≤ deepestBody) ⌝ }
@@ -401,7 +443,7 @@ fn closed(
     requires { ⌜ (k ≤ length (now marks)) × (k ≤ length (now numbers)) × (k ≤ 65536) × (k ≤ length (now words)) ⌝ }
     requires { ⌜ Numbered (now numbers) k n ⌝ }
     ensures { λ r. ⌜ countAnswer r ≡ pick (inside && ltb end (lastOf last)) (refuses pastValue start) (verdictAnswer n (numbersTo k n (now (numbers .entry))) (verdictOn (take k (now (marks .entry))))) ⌝ }
-    ensures { λ _. ⌜ now (table .exit) ≡ pick (inside && ltb end (lastOf last)) (now (table .entry)) (verdictTable (take k (now (numbers .entry))) (numbersTo k n (now (numbers .entry))) (verdictOn (take k (now (marks .entry)))) (now (table .entry))) ⌝ }
+    ensures { λ _. ⌜ ((inside && ltb end (lastOf last)) ≡ false → VerdictLaid (take k (now (numbers .entry))) (numbersTo k n (now (numbers .entry))) (verdictOn (take k (now (marks .entry)))) (now (table .entry)) (now (table .exit))) ⌝ }
 {
     if past(inside, end, last) {
         return Counted::Refused(Refusal {
@@ -432,6 +474,7 @@ fn past(inside: bool, end: usize, last: Place) -> bool
     false
 }
 
+// The grammar's verdict on a body's own tokens, and their owners, numbered through. (What a refusal leaves in the table nobody reads.)
 fn judged(
     k: usize,
     n: usize,
@@ -443,62 +486,63 @@ fn judged(
     requires { ⌜ (k ≤ length (now marks)) × (k ≤ length (now numbers)) × (k ≤ 65536) × (k ≤ length (now words)) ⌝ }
     requires { ⌜ Numbered (now numbers) k n ⌝ }
     ensures { λ r. ⌜ countAnswer r ≡ verdictAnswer n (numbersTo k n (now (numbers .entry))) (verdictOn (take k (now (marks .entry)))) ⌝ }
-    ensures { λ _. ⌜ now (table .exit) ≡ verdictTable (take k (now (numbers .entry))) (numbersTo k n (now (numbers .entry))) (verdictOn (take k (now (marks .entry)))) (now (table .entry)) ⌝ }
+    ensures { λ _. ⌜ VerdictLaid (take k (now (numbers .entry))) (numbersTo k n (now (numbers .entry))) (verdictOn (take k (now (marks .entry)))) (now (table .entry)) (now (table .exit)) ⌝ }
+{
+    if n == k {
+        return judged_alone(k, n, marks, numbers, table);
+    }
+    judged_among(k, n, marks, numbers, words, table)
+}
+
+// Where no token but the body's own is numbered, the number of each is its place: the words stay, and are noted in the table at once.
+fn judged_alone(k: usize, n: usize, marks: &[u8], numbers: &[u32], table: &mut [u32]) -> Counted
+    requires { ⌜ (k ≤ length (now marks)) × (k ≤ length (now numbers)) × (k ≤ 65536) × (n ≡ k) ⌝ }
+    requires { ⌜ Numbered (now numbers) k n ⌝ }
+    ensures { λ r. ⌜ countAnswer r ≡ verdictAnswer n (numbersTo k n (now (numbers .entry))) (verdictOn (take k (now (marks .entry)))) ⌝ }
+    ensures { λ _. ⌜ VerdictLaid (take k (now (numbers .entry))) (numbersTo k n (now (numbers .entry))) (verdictOn (take k (now (marks .entry)))) (now (table .entry)) (now (table .exit)) ⌝ }
+{
+    match body::judge(&marks[..k], table) {
+        Counted::Count(_) => Counted::Count(n),
+        Counted::Refused(r) => refused_at(numbers, k, n, r),
+    }
+}
+
+fn judged_among(
+    k: usize,
+    n: usize,
+    marks: &[u8],
+    numbers: &[u32],
+    words: &mut [u32],
+    table: &mut [u32],
+) -> Counted
+    requires { ⌜ (k ≤ length (now marks)) × (k ≤ length (now numbers)) × (k ≤ 65536) × (k ≤ length (now words)) ⌝ }
+    requires { ⌜ Numbered (now numbers) k n ⌝ }
+    ensures { λ r. ⌜ countAnswer r ≡ verdictAnswer n (numbersTo k n (now (numbers .entry))) (verdictOn (take k (now (marks .entry)))) ⌝ }
+    ensures { λ _. ⌜ VerdictLaid (take k (now (numbers .entry))) (numbersTo k n (now (numbers .entry))) (verdictOn (take k (now (marks .entry)))) (now (table .entry)) (now (table .exit)) ⌝ }
 {
     match body::judge(&marks[..k], words) {
         Counted::Count(_) => {
             lay(numbers, k, n, words, table);
             Counted::Count(n)
         }
-        Counted::Refused(r) => Counted::Refused(Refusal {
-            number: r.number,
-            place: number_of(numbers, k, n, r.place),
-        }),
+        Counted::Refused(r) => refused_at(numbers, k, n, r),
     }
 }
 
-// The owners of a body's own tokens, numbered through.
+// The grammar's refusal, which names a token by its number.
+fn refused_at(numbers: &[u32], k: usize, n: usize, r: Refusal) -> Counted
+    requires { ⌜ k ≤ length (now numbers) ⌝ }
+    requires { ⌜ Numbered (now numbers) k n ⌝ }
+    ensures { λ x. ⌜ countAnswer x ≡ refuses (r .number) (getD (numbersTo k n (now (numbers .entry))) (r .place) 0) ⌝ }
+{
+    Counted::Refused(Refusal {
+        number: r.number,
+        place: number_of(numbers, k, n, r.place),
+    })
+}
+
+// The owners of a body's own tokens, each at its number.
 fn lay(numbers: &[u32], k: usize, n: usize, words: &[u32], table: &mut [u32])
-    requires { ⌜ (k ≤ length (now numbers)) × (k ≤ length (now words)) ⌝ }
-    requires { ⌜ Numbered (now numbers) k n ⌝ }
-    ensures { λ _. ⌜ now (table .exit) ≡ setAt (take k (now (numbers .entry))) (map (renumbered (numbersTo k n (now (numbers .entry)))) (take k (now (words .entry)))) (now (table .entry)) ⌝ }
-{
-    if n == k {
-        if k <= table.len() {
-            lay_alone(numbers, k, n, words, table);
-            return;
-        }
-    }
-    lay_each(numbers, k, n, words, table);
-}
-
-// Where no token but the body's own is numbered, the number of each is its place: the words stay. (The numbers are not read, and a store needs
-// no test, so that the machine code goes through several words at once.)
-fn lay_alone(numbers: &[u32], k: usize, n: usize, words: &[u32], table: &mut [u32])
-    requires { ⌜ (k ≤ length (now numbers)) × (k ≤ length (now words)) × (k ≤ length (now table)) × (n ≡ k) ⌝ }
-    requires { ⌜ Numbered (now numbers) k n ⌝ }
-    ensures { λ _. ⌜ now (table .exit) ≡ setAt (take k (now (numbers .entry))) (map (renumbered (numbersTo k n (now (numbers .entry)))) (take k (now (words .entry)))) (now (table .entry)) ⌝ }
-{
-    let mut i: usize = 0;
-    while i < k {
-        table[i] = alone(numbers, k, n, words[i]);
-        i += 1;
-    }
-}
-
-// A word by its owner's own number; past the last one it is as a number that is not there.
-fn alone(numbers: &[u32], k: usize, n: usize, word: u32) -> u32
-    requires { ⌜ (k ≤ length (now numbers)) × (n ≡ k) ⌝ }
-    requires { ⌜ Numbered (now numbers) k n ⌝ }
-    ensures { λ r. ⌜ r ≡ renumbered (numbersTo k n (now (numbers .entry))) word ⌝ }
-{
-    if k as u32 + 1 < word {
-        return 1;
-    }
-    word
-}
-
-fn lay_each(numbers: &[u32], k: usize, n: usize, words: &[u32], table: &mut [u32])
     requires { ⌜ (k ≤ length (now numbers)) × (k ≤ length (now words)) ⌝ }
     requires { ⌜ Numbered (now numbers) k n ⌝ }
     ensures { λ _. ⌜ now (table .exit) ≡ setAt (take k (now (numbers .entry))) (map (renumbered (numbersTo k n (now (numbers .entry)))) (take k (now (words .entry)))) (now (table .entry)) ⌝ }

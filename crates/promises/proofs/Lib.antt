@@ -48,7 +48,6 @@ pub mod NestOne
 pub mod NestTurns
 pub mod NestRise
 pub mod NestWalk
-pub mod NestOwners
 pub mod NestPlain
 pub mod NestNothing
 pub mod NestSound

@@ -19,8 +19,9 @@ use Rattle.body.specs.Reader.{verdictOn}
 use Rattle.body.proofs.Answers.{verdict-right}
 use Rattle.body.proofs.One.{one-judgement}
 use Rattle.nest.specs.Nested.{deepestBody, Entry, Own, tokensOf, numbersFrom, renumbered, entriesOf, byNumbers, closedAt, nestAt, bodyAt, inWindow, nestedOf, sheetOf, ownersOf, bothWords}
+use Rattle.nest.proofs.Numbers.{same-words}
+use Rattle.nest.proofs.Owners.{owner-before}
 use Rattle.promises.specs.Nests.{Says, NoBodies, NothingNew}
-use Rattle.promises.proofs.NestOwners.{owner-before}
 use Rattle.promises.proofs.NestPlain.{Bare, Plain, nest-plain}
 use Rattle.promises.proofs.NestWalk.{Walks, nest-walks}
 
@@ -33,18 +34,6 @@ numbers-bare (o ∷ l) n (suc i) b h =
     let e : length (o .within) ≡ 0 = ap length (b .0) in
     let q = numbers-bare l (suc n + length (o .within)) i (b .1) (omega arith) in
     q ∙ omega (arith, e)
-
-same-word : (numbers : List ℕ) (k w : ℕ) → ((i : ℕ) → i ≤ k → getD numbers i 0 ≡ i) → w ≤ k → renumbered numbers w ≡ w
-same-word numbers k zero h l = refl
-same-word numbers k (suc i) h l = ap suc (h i (omega arith))
-
-same-words : (numbers : List ℕ) (k : ℕ) (words : List ℕ) → ((i : ℕ) → i ≤ k → getD numbers i 0 ≡ i) → ((n : ℕ) → n < length words → getD words n 0 ≤ k)
-    → map (renumbered numbers) words ≡ words
-same-words numbers k [] h l = refl
-same-words numbers k (w ∷ words) h l =
-    let a = same-word numbers k w h (l 0 (omega arith)) in
-    let b = same-words numbers k words h (λ n q. l (suc n) (omega arith)) in
-    λ i. a i ∷ b i
 
 sheet-bare : (words : List ℕ) (l : List Own) → Bare l → length words ≡ length l → sheetOf (entriesOf 0 words l) ≡ wordsOf (tokensOf l)
 sheet-bare words [] b e = refl

@@ -1,4 +1,4 @@
--- `lay_each` meets its contract: the owners of the first i tokens are set. Assumes nothing.
+-- `lay` meets its contract: the owners of the first i tokens are set. Assumes nothing.
 use mathlib.Core.Path.{_≡_, refl, sym, _∙_}
 use mathlib.Core.List.{map}
 use Prim.Native.Nat.{_+_, _-_, _≤_}
@@ -9,8 +9,8 @@ use Rattle.nest.specs.Nested.{renumbered}
 use Rattle.nest.specs.Pieces.{numbersTo, setAt}
 use Rattle.nest.proofs.Numbers.{set-next, set-none}
 use borrow.Author.Needs.{needs}
-use Rattle.nest.proofs.inner.lay_each.Statement.{statement}
-use Rattle.nest.proofs.inner.lay_each.Tie as tie
+use Rattle.nest.proofs.inner.lay.Statement.{statement}
+use Rattle.nest.proofs.inner.lay.Tie as tie
 
 abbrev Inv-loop : tie.InvT-loop
 Inv-loop numbers k n words table₀ i₀ table i =
@@ -43,8 +43,8 @@ returns c =
     let s = c .before .before .before .before .before in
     sym (set-none _ _ (l .table) (l .i) (omega (arith, c .loop-test .left, length-take-le (s .args .k) (s .args .numbers .now) (s .pre .0 .0)))) ∙ l .inv .1
 
-pub lay-each-spec : {M : Type 1} → statement M
-lay-each-spec =
+pub lay-spec : {M : Type 1} → statement M
+lay-spec =
     tie.close
     (tie.spec
     Inv-loop
