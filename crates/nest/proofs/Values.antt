@@ -72,6 +72,25 @@ sized-far t start code size =
     either (Far (start + size)) (ltb (start + length t + size) (2 ^ 64)) _ _
     (λ w. skipped-far code start (start + length t) (start + size) (moved start (sizedIn t code size))) (λ w. tt {0})
 
+-- a value is of its descriptor's type
+abbrev pub Coded : ℕ → Answer Value → Type 0
+Coded code (given v next) = v .code ≡ code
+Coded code (refused k p) = Unit {0}
+
+passed-coded : (code start end m : ℕ) (a : Answer Content) → Coded code (passed code start end m a)
+passed-coded code start end m (given x next) =
+    either (Coded code) (leb m next) _ _ (λ w. refl) (λ w. either (Coded code) (leb m end) _ _ (λ u. refl) (λ u. tt {0}))
+passed-coded code start end m (refused k p) = tt {0}
+
+sized-coded : (t : List ℕ) (start code size : ℕ) → Coded code (sizedAt t start code size)
+unfolding sizedAt
+sized-coded t start code size =
+    either (Coded code) (ltb (start + length t + size) (2 ^ 64)) _ _
+    (λ w. passed-coded code start (start + length t) (start + size) (moved start (sizedIn t code size))) (λ w. tt {0})
+
+pub value-coded : (s : List ℕ) (table at : ℕ) → Coded (numberOf s (table + 2) 1) (valueIn s table at)
+value-coded s table at = sized-coded _ at (numberOf s (table + 2) 1) (numberOf s table 2)
+
 -- a value that was read starts where it is read, and ends after its size and within the stream
 pub value-spans : (s : List ℕ) (table at : ℕ) (v : Value) (next : ℕ) → at ≤ length s → valueIn s table at ≡ given v next
     → (v .start ≡ at) × (at + numberOf s table 2 ≤ next) × (next ≤ length s)

@@ -2,17 +2,13 @@
 use mathlib.Core.Path.{_≡_, refl, sym, ap, subst, _∙_}
 use mathlib.Core.Bool.{Bool}
 use mathlib.Core.List.{List, [], _∷_, _++_}
-use Prim.Native.Nat.{ℕ, zero, suc, _+_, _-_, _*_, _^_, _≤_, _<_}
+use Prim.Native.Nat.{ℕ, zero, suc, _+_, _-_, _*_, _≤_, _<_}
 use native.Mathlib.Omega.{arith}
 use borrow.Author.Tests.{ne-eqb}
-use lib.Dec.{eqb, leb, ltb}
+use lib.Dec.{eqb}
 use lib.ListN.{length}
 use Rattle.cursor.specs.Answer.{Answer, given, refused, _then_}
 use Rattle.cursor.specs.Reads.{numberOf}
-use Rattle.cursor.proofs.Choice.{either}
-use Rattle.value.specs.Pieces.{passed}
-use Rattle.value.specs.Value.{moved, sizedIn, sizedAt}
-use Rattle.value.specs.declared.Content.{Content}
 use Rattle.value.specs.declared.Value.{Value}
 use Rattle.value.proofs.Bounds.{Between}
 use Rattle.tokens.specs.Instance.{valueIn, valuesAt}
@@ -24,28 +20,10 @@ use Rattle.tokens.specs.declared.Token.{Token}
 use Rattle.tokens.proofs.Reach.{values}
 use Rattle.tokens.proofs.Sights.{Sees, sight-sees}
 use Rattle.nest.specs.Nested.{binXml, Entry, Own, own, Inner, heldIn, readingOn, valuesFrom, heldBy, onward, nestFrom, nestAt}
+use Rattle.nest.proofs.Values.{Coded, value-coded}
 use Rattle.promises.specs.Nests.{Reached, at-start, after-token, after-header, NoneHeld, NoBodies}
 use Rattle.promises.proofs.NestTurns.{instanceOf, wholly, turn-sight, turn-met, turn-begun}
 use Rattle.promises.proofs.NestWalk.{walk-handed, walk-refused, walk-header}
-
--- a value is of its descriptor's type
-abbrev Coded : ℕ → Answer Value → Type 0
-Coded code (given v next) = v .code ≡ code
-Coded code (refused k p) = Unit {0}
-
-passed-coded : (code start end m : ℕ) (a : Answer Content) → Coded code (passed code start end m a)
-passed-coded code start end m (given x next) =
-    either (Coded code) (leb m next) _ _ (λ w. refl) (λ w. either (Coded code) (leb m end) _ _ (λ u. refl) (λ u. tt {0}))
-passed-coded code start end m (refused k p) = tt {0}
-
-pub sized-coded : (t : List ℕ) (start code size : ℕ) → Coded code (sizedAt t start code size)
-unfolding sizedAt
-sized-coded t start code size =
-    either (Coded code) (ltb (start + length t + size) (2 ^ 64)) _ _
-    (λ w. passed-coded code start (start + length t) (start + size) (moved start (sizedIn t code size))) (λ w. tt {0})
-
-value-coded : (s : List ℕ) (table at : ℕ) → Coded (numberOf s (table + 2) 1) (valueIn s table at)
-value-coded s table at = sized-coded _ at (numberOf s (table + 2) 1) (numberOf s table 2)
 
 -- values that hold nothing
 abbrev bare : Answer Unit → Answer (List Entry)
