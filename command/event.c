@@ -5,6 +5,7 @@
 
 #define NO_ELEMENT "(held by no element)"
 #define NO_TEXT "(elements above not known)"
+#define NOT_KEPT UINT32_MAX
 
 void event_start(struct event *event, const uint8_t *chunk)
 {
@@ -13,6 +14,7 @@ void event_start(struct event *event, const uint8_t *chunk)
         event->label_round = 0;
         memset(event->rounds, 0, sizeof event->rounds);
     }
+    event->paths_used = 0;
     names_start(&event->names, chunk);
     texts_start(&event->texts, chunk);
 }
@@ -35,6 +37,7 @@ static void add_body(struct event *event, doortumble_token token, uint32_t *last
     body->instance = token.kind == DOORTUMBLE_KIND_INSTANCE;
     last[body->level] = event->bodies_count;
     body->parent = last[body->level == 0 ? 0 : body->level - 1];
+    body->above = body->level == 0 ? 0 : NOT_KEPT;
     event->bodies_count++;
 }
 
@@ -52,17 +55,20 @@ static void find_bodies(struct event *event)
             add_body(event, doortumble_token_at(texts->sheet, n), last);
 }
 
+// The rows of a body stand together.
 static void share_rows(struct event *event)
 {
-    uint32_t n;
+    uint32_t n = 0;
 
-    for (n = 0; n < event->rows_count; n++) {
+    while (n < event->rows_count) {
         uint32_t number = doortumble_item_at(event->rows, n).body;
         struct event_body *body = &event->bodies[number];
 
-        assert(number < event->bodies_count); // else the two calls see other bodies: a bug there
-        if (body->rows++ == 0)
-            body->first = n;
+        assert(number < event->bodies_count && body->rows == 0); // else the two calls see other bodies: a bug there
+        body->first = n;
+        while (n < event->rows_count && doortumble_item_at(event->rows, n).body == number)
+            n++;
+        body->rows = n - body->first;
     }
 }
 
@@ -128,21 +134,36 @@ static int is_short_text(const doortumble_item *item)
            item->length > 0 && item->length <= 2 * NAME_UNITS;
 }
 
-// The Name of a Data, where it is one text.
-static int is_label(struct event *event, uint32_t n, const doortumble_item *item)
+// The Name of a Data; of a token that has a note this is asked once.
+static int is_name(struct event *event, const doortumble_item *item, struct note *note)
 {
-    return item->in_attribute && is_short_text(item) && name_is(name_at(&event->names, item->attribute_name), "Name") &&
-           name_is(name_at(&event->names, item->element_name), "Data") && !is_same_attribute(event, n + 1, item) &&
+    int is;
+
+    if (note != NULL && note->asked)
+        return note->is_name;
+    is = name_is(name_at(&event->names, item->attribute_name), "Name") && name_is(name_at(&event->names, item->element_name), "Data");
+    if (note != NULL) {
+        note->asked = 1;
+        note->is_name = (uint8_t)is;
+    }
+    return is;
+}
+
+// Where it is one text.
+static int is_label(struct event *event, uint32_t n, const doortumble_item *item, struct note *note)
+{
+    return item->in_attribute && is_short_text(item) && is_name(event, item, note) && !is_same_attribute(event, n + 1, item) &&
            (n == 0 || !is_same_attribute(event, n - 1, item));
 }
 
-static int note_label(struct event *event, uint32_t n, const doortumble_item *item)
+static int note_label(struct event *event, uint32_t n, const doortumble_item *item, struct note *note)
 {
-    if (item->element >= DOORTUMBLE_MOST_TOKENS || !is_label(event, n, item))
+    if (item->element >= DOORTUMBLE_MOST_TOKENS || !is_label(event, n, item, note))
         return 0;
     event->labels[item->element] = n;
     event->rounds[item->element] = event->label_round;
     event->bodies[item->body].labelled = 1;
+    event->changing |= item->kind == DOORTUMBLE_KIND_SUBSTITUTION;
     return 1;
 }
 
@@ -155,7 +176,7 @@ static void note_again(struct event *event, const struct event_body *body)
     event->label_round++;
     for (n = body->first; body->labelled && n < body->first + body->rows; n++) {
         item = doortumble_item_at(event->rows, n);
-        note_label(event, n, &item);
+        note_label(event, n, &item, NULL);
     }
 }
 
@@ -240,26 +261,80 @@ static size_t put_attribute(struct event *event, size_t at, const doortumble_ite
     return put_name(event, put_text(event, at, "/@", 2), item->attribute_name);
 }
 
-// The path above a body: that of the row which holds it, in the text of the body around it.
-static void begin_body(struct event *event, const struct event_body *body)
+// The path of the row that holds a body, in the text of the body around it.
+static size_t put_holder(struct event *event, const struct event_body *body)
 {
     const struct event_body *outer = &event->bodies[body->parent];
+    size_t at = event->path_lengths[body->level - 1];
     doortumble_item item;
+
+    if (body->holder == 0)
+        return put_words(event, at, NO_ELEMENT);
+    event->above = 0;
+    note_again(event, outer);
+    item = doortumble_item_at(event->rows, body->holder - 1);
+    return put_attribute(event, put_elements(event, at, text_of(event, outer), &item), &item);
+}
+
+// Begins with the path above the body.
+static void begin_body(struct event *event, const struct event_body *body)
+{
     size_t at = 0;
 
-    event->above = 0;
-    if (body->level > 0)
-        at = event->path_lengths[body->level - 1];
-    if (body->level > 0 && body->holder == 0)
-        at = put_words(event, at, NO_ELEMENT);
-    if (body->holder != 0) {
-        note_again(event, outer);
-        item = doortumble_item_at(event->rows, body->holder - 1);
-        at = put_attribute(event, put_elements(event, at, text_of(event, outer), &item), &item);
-    }
+    if (body->level > 0 && body->above == NOT_KEPT)
+        at = put_holder(event, body);
+    else if (body->level > 0)
+        at = put_text(event, 0, event->paths + body->above - 1, body->above_length);
     event->path_lengths[body->level] = at;
     event->label_round++;
     event->above = 0;
+    event->changing = 0;
+}
+
+// Keeps the path of a row, where there is room; its bytes stay in their place until the next chunk.
+static void keep_path(struct event *event, const struct event_body *body, struct note *note, struct field *field)
+{
+    size_t bytes = field->path_length < PATH_WIDTH ? PATH_WIDTH : field->path_length;
+
+    if (PATHS_BYTES - event->paths_used < bytes)
+        return;
+    note->above = body->above;
+    note->start = event->paths_used;
+    note->length = (uint32_t)field->path_length;
+    event->paths_used += (uint32_t)bytes;
+    memset(event->paths + note->start, ' ', bytes);
+    field->path = memcpy(event->paths + note->start, field->path, field->path_length);
+    field->path_kept = 1;
+}
+
+// The path of a row: the one that is kept, or else put together.
+static void find_path(struct event *event, const struct event_body *body, const struct text *text, struct note *note,
+                      struct field *field)
+{
+    int keeps = note != NULL && body->above != NOT_KEPT && !event->changing;
+    size_t at;
+
+    if (keeps && note->length > 0 && note->above == body->above) {
+        field->path = event->paths + note->start;
+        field->path_length = note->length;
+        field->path_kept = 1;
+        return;
+    }
+    at = put_elements(event, event->path_lengths[body->level], text, &field->item);
+    field->path = event->path;
+    field->path_length = put_attribute(event, at, &field->item);
+    field->path_kept = 0;
+    if (keeps && note->length == 0)
+        keep_path(event, body, note, field);
+}
+
+// For the body that hangs below a row, where that row's path is kept.
+static void set_above(struct event *event, struct event_body *inner, const struct field *field)
+{
+    if (!field->path_kept)
+        return;
+    inner->above = (uint32_t)(field->path - event->paths) + 1;
+    inner->above_length = (uint32_t)field->path_length;
 }
 
 // ----------------------------------------------------------------------------------------------------------- the fields
@@ -289,16 +364,15 @@ static void hold_body(struct event *event, uint32_t n, struct field *field)
     field->shown_below = inner->holder == n + 1 && inner->rows > 0;
 }
 
-static void begin_field(struct event *event, uint32_t n, const struct event_body *body, struct field *field)
+static void begin_field(struct event *event, uint32_t n, const struct event_body *body, struct note *note, struct field *field)
 {
-    field->item = doortumble_item_at(event->rows, n);
     field->inner = 0;
     field->shown_below = 0;
     field->shown_in_path = 0;
     field->stands_for_nothing = field->item.kind == DOORTUMBLE_KIND_SUBSTITUTION && !body->instance;
     if (field->item.kind == DOORTUMBLE_KIND_SUBSTITUTION && field->item.type == 0x21)
         hold_body(event, n, field);
-    if (field->item.in_attribute && note_label(event, n, &field->item))
+    if (field->item.in_attribute && note_label(event, n, &field->item, note))
         field->shown_in_path = is_shown_in_path(event, n, &field->item);
 }
 
@@ -307,14 +381,16 @@ static void print_body(struct event *event, const struct event_body *body, print
 {
     const struct text *text = body->rows == 0 ? NULL : text_of(event, body);
     struct field field;
+    struct note *note;
     uint32_t n;
-    size_t at;
 
-    field.path = event->path;
     for (n = body->first; n < body->first + body->rows; n++) {
-        begin_field(event, n, body, &field);
-        at = put_elements(event, event->path_lengths[body->level], text, &field.item);
-        field.path_length = put_attribute(event, at, &field.item);
+        field.item = doortumble_item_at(event->rows, n);
+        note = text_note(&event->texts, text, field.item.number);
+        begin_field(event, n, body, note, &field);
+        find_path(event, body, text, note, &field);
+        if (field.inner != 0 && event->bodies[field.inner].holder == n + 1)
+            set_above(event, &event->bodies[field.inner], &field);
         print(to, event, &field);
     }
 }

@@ -9,6 +9,7 @@
 
 #include "job.h"
 #include "quote.h"
+#include "workers.h"
 
 #define HEADER_BYTES 128
 
@@ -78,10 +79,10 @@ static enum status tell_no_log(struct job *job, uint64_t answer)
 
 // ---------------------------------------------------------------------------------------------------------- the chunks
 
-// Whether a chunk is all zeros, as a log keeps its last ones in stock. It is asked only of what was refused as a chunk.
-static int is_empty(const uint8_t *chunk, size_t length)
+// Whether a chunk is all zeros, as a log keeps its last ones in stock. A shorter rest is refused instead, whatever it holds.
+static int is_empty(const uint8_t *bytes, size_t length)
 {
-    return length > 0 && chunk[0] == 0 && memcmp(chunk, chunk + 1, length - 1) == 0;
+    return length == DOORTUMBLE_CHUNK_BYTES && bytes[0] == 0 && memcmp(bytes, bytes + 1, length - 1) == 0;
 }
 
 // Chunks of zeros are told together, when something else comes or the file ends: a file of five gigabytes may hold little else.
@@ -104,43 +105,59 @@ static void refuse_chunk(struct job *job, uint64_t offset, uint64_t answer)
     job->view->refused(job, offset, number, doortumble_place(answer), why);
 }
 
-// One chunk, or what stands in its place. Answers where the zeros begin that are not told yet, or else where the chunk ends.
-static uint64_t read_chunk(struct job *job, const uint8_t *chunk, size_t length, uint64_t empty_from)
-{
-    uint64_t offset = job->input.offset;
-    uint64_t answer = doortumble_list(chunk, length, (uint32_t)job->recovery, job->rows, ROWS_WORDS);
-
-    job->counts.chunks++;
-    if (doortumble_number(answer) == DOORTUMBLE_WRONG_MAGIC && is_empty(chunk, length)) {
-        job->counts.empty++;
-        return empty_from;
-    }
-    if (job->out.terminal)
-        progress_hide(&job->progress);
-    tell_empty(job, empty_from, offset);
-    if (doortumble_refused(answer))
-        refuse_chunk(job, offset, answer);
-    else
-        job->view->chunk(job, offset, chunk, doortumble_count(answer));
-    return offset + length;
-}
-
-// A read that fails in the middle of a chunk leaves that chunk unlisted: it is not known to be cut.
-static void read_chunks(struct job *job)
+int next_piece(struct job *job, struct piece *piece)
 {
     struct input *input = &job->input;
-    size_t length = input_ask(input, DOORTUMBLE_CHUNK_BYTES);
-    uint64_t empty_from = input->offset;
 
-    while (length > 0 && input->error == 0 && job->out.error == 0) {
-        empty_from = read_chunk(job, input_at(input), length, empty_from);
-        input_take(input, length);
+    progress_show(&job->progress, job->name, input->offset, input->expected);
+    piece->length = input_ask(input, DOORTUMBLE_CHUNK_BYTES);
+    if (piece->length == 0 || input->error != 0)
+        return 0;
+    piece->bytes = input_at(input);
+    piece->offset = input->offset;
+    piece->zeros_from = job->zeros_from;
+    piece->empty = is_empty(piece->bytes, piece->length);
+    input_take(input, piece->length);
+    job->counts.chunks++;
+    if (piece->empty)
+        job->counts.empty++;
+    else
+        job->zeros_from = input->offset;
+    return 1;
+}
+
+void read_piece(struct job *job, const struct piece *piece)
+{
+    uint64_t answer = doortumble_list(piece->bytes, piece->length, (uint32_t)job->recovery, job->rows, ROWS_WORDS);
+
+    if (job->out.terminal)
+        progress_hide(&job->progress);
+    tell_empty(job, piece->zeros_from, piece->offset);
+    if (doortumble_refused(answer))
+        refuse_chunk(job, piece->offset, answer);
+    else
+        job->view->chunk(job, piece->offset, piece->bytes, doortumble_count(answer));
+}
+
+// One after the other.
+static void read_pieces(struct job *job)
+{
+    struct piece piece;
+
+    while (job->out.error == 0 && next_piece(job, &piece)) {
+        if (!piece.empty)
+            read_piece(job, &piece);
         if (job->out.terminal)
             out_flush(&job->out);
-        progress_show(&job->progress, job->name, input->offset, input->expected);
-        length = input_ask(input, DOORTUMBLE_CHUNK_BYTES);
     }
-    tell_empty(job, empty_from, input->offset);
+}
+
+static void read_chunks(struct job *job)
+{
+    job->zeros_from = job->input.offset;
+    if (!workers_read(job))
+        read_pieces(job);
+    tell_empty(job, job->zeros_from, job->input.offset);
 }
 
 // -------------------------------------------------------------------------------------------------------------- the end

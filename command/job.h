@@ -39,6 +39,8 @@ struct filter {
     uint64_t to;
 };
 
+struct reader; // what show reads records with (show.h)
+
 // Of one file at a time; all of it is there from the start, so that no log is too large for it.
 struct job {
     const struct view *view;
@@ -57,7 +59,18 @@ struct job {
     struct input input;
     struct out out;
     struct progress progress;
+    uint64_t zeros_from; // where the chunks of zeros begin that are not told yet
+    struct reader *reader;
     uint64_t rows[ROWS_WORDS]; // lent for a chunk's rows
+};
+
+// A chunk of the file, or what stands in its place.
+struct piece {
+    const uint8_t *bytes;
+    size_t length;       // less than a chunk's only where the file ends
+    uint64_t offset;     // in the file
+    uint64_t zeros_from; // where the chunks of zeros begin that stand before it and are not told; else its own offset
+    int empty;           // it is a chunk of zeros itself
 };
 
 // What a subcommand prints of a file: it is called for the file's header, for each chunk in order, and at the end. It counts in
@@ -80,6 +93,13 @@ extern const struct view show_view;
 
 // Goes through one file, standard input where it is "-".
 enum status read_file(struct job *job, const char *file);
+
+// The file's next piece, which stays until the one after it is asked for. 0 where there is none, or the read failed: a read that
+// fails in the middle of a chunk leaves that chunk unlisted, since it is not known to be cut.
+int next_piece(struct job *job, struct piece *piece);
+
+// Prints what a piece says that is not empty, and what was not told before it.
+void read_piece(struct job *job, const struct piece *piece);
 
 // What several subcommands print alike: a record's line, or the first fields of its row; what was refused; chunks of zeros; and the
 // counts that end a file.

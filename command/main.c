@@ -9,6 +9,7 @@
 
 #include "job.h"
 #include "when.h"
+#include "workers.h"
 
 #ifndef DOORTUMBLE_VERSION
 #define DOORTUMBLE_VERSION "not given"
@@ -53,6 +54,8 @@ static const char help[] =
 static const struct view *const views[] = {&list_view, &show_view, &info_view};
 
 static struct job job; // too large for a stack
+static char printed[65536]; // lent to its output
+static char said[BUFSIZ];   // lent to stderr, so that no thread asks for memory there
 
 // ----------------------------------------------------------------------------------------------------------------- usage
 
@@ -232,13 +235,17 @@ static enum status run(char **arguments)
 
 int main(int count, char **arguments)
 {
+    enum status status;
+
     take_descriptors();
     signal(SIGPIPE, SIG_IGN); // a closed pipe is then a write that fails, and is told
-    setvbuf(stderr, NULL, _IOLBF, BUFSIZ); // a line at a time, also where several programs write there
-    out_start(&job.out, STDOUT_FILENO);
+    setvbuf(stderr, said, _IOLBF, sizeof said); // a line at a time, also where several programs write there
+    out_start(&job.out, STDOUT_FILENO, printed, sizeof printed);
     job.form.out = &job.out;
     job.recovery = 1;
     job.filter.to = UINT64_MAX;
     progress_start(&job.progress);
-    return (int)end_output(run(count > 0 ? arguments + 1 : arguments));
+    status = end_output(run(count > 0 ? arguments + 1 : arguments));
+    workers_end();
+    return (int)status;
 }

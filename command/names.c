@@ -8,7 +8,8 @@ void names_start(struct names *names, const uint8_t *chunk)
 {
     names->chunk = chunk;
     names->used = 0;
-    memset(names->kept, 0, sizeof names->kept);
+    while (names->count > 0)
+        names->kept[names->offsets[--names->count]] = 0;
 }
 
 // A name of XML has no parentheses: what stands in them is no name.
@@ -42,6 +43,7 @@ static void keep(struct names *names, uint32_t offset)
     if (NAMES_BYTES - names->used < NAME_BYTES)
         names_start(names, names->chunk);
     end = put_name(names->chunk, names->texts + names->used, offset);
+    names->offsets[names->count++] = (uint16_t)offset;
     names->kept[offset] = (uint32_t)names->used + 1;
     names->lengths[offset] = (uint16_t)(end - names->texts - (ptrdiff_t)names->used);
     names->used = (size_t)(end - names->texts);

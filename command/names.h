@@ -20,7 +20,9 @@ struct name {
 
 struct names {
     const uint8_t *chunk;
+    unsigned count;                       // names that are kept
     size_t used;                          // bytes of the texts
+    uint16_t offsets[DOORTUMBLE_CHUNK_BYTES]; // where they stand in the chunk
     uint32_t kept[DOORTUMBLE_CHUNK_BYTES]; // of each offset where its text stands, plus 1; 0: it is not kept
     uint16_t lengths[DOORTUMBLE_CHUNK_BYTES];
     char texts[NAMES_BYTES];

@@ -5,12 +5,16 @@
 #include <string.h>
 #include <unistd.h>
 
-void out_start(struct out *out, int descriptor)
+void out_start(struct out *out, int descriptor, char *bytes, size_t most)
 {
     out->descriptor = descriptor;
     out->terminal = isatty(descriptor);
     out->error = 0;
+    out->wait = NULL;
+    out->waiter = NULL;
     out->length = 0;
+    out->most = most;
+    out->bytes = bytes;
 }
 
 // A descriptor that does not wait, as a pipe that another program has left so.
@@ -27,6 +31,8 @@ int out_flush(struct out *out)
 {
     size_t done = 0;
 
+    if (out->wait != NULL && out->error == 0 && out->length > 0)
+        out->wait(out->waiter);
     while (out->error == 0 && done < out->length) {
         ssize_t wrote = write(out->descriptor, out->bytes + done, out->length - done);
 
@@ -48,25 +54,8 @@ int out_end(struct out *out)
     return out->error != 0;
 }
 
-char *out_room(struct out *out, size_t bytes)
+void out_long(struct out *out, const char *bytes, size_t length)
 {
-    if (OUT_BYTES - out->length < bytes)
-        out_flush(out);
-    return out->bytes + out->length;
-}
-
-void out_took(struct out *out, const char *end)
-{
-    out->length = (size_t)(end - out->bytes);
-}
-
-void out_bytes(struct out *out, const char *bytes, size_t length)
-{
-    if (length <= OUT_BYTES - out->length) {
-        memcpy(out->bytes + out->length, bytes, length);
-        out->length += length;
-        return;
-    }
     while (length > 0) {
         size_t part = length < OUT_ROOM ? length : OUT_ROOM;
         char *to = out_room(out, part);
@@ -76,11 +65,6 @@ void out_bytes(struct out *out, const char *bytes, size_t length)
         bytes += part;
         length -= part;
     }
-}
-
-void out_text(struct out *out, const char *text)
-{
-    out_bytes(out, text, strlen(text));
 }
 
 void out_number(struct out *out, uint64_t number)
@@ -93,13 +77,10 @@ void out_number(struct out *out, uint64_t number)
 static unsigned digits_of(uint64_t number)
 {
     unsigned digits = 1;
-    uint64_t next = 10; // 10 to the power of digits
 
-    while (digits < 20 && number >= next) {
-        digits++;
-        next *= 10; // at 20 digits it would not fit, and is not asked any more
-    }
-    return digits;
+    for (; number >= 10000; number /= 10000)
+        digits += 4;
+    return digits + (number >= 10) + (number >= 100) + (number >= 1000);
 }
 
 // Two digits at a time: a listing has some millions of them.
@@ -122,11 +103,13 @@ char *put_padded(char *to, uint64_t number, unsigned digits)
     return end;
 }
 
+// One digit is what most numbers have.
 char *put_number(char *to, uint64_t number)
 {
-    unsigned digits = digits_of(number);
-
-    return put_padded(to, number, digits);
+    if (number >= 10)
+        return put_padded(to, number, digits_of(number));
+    *to++ = (char)('0' + number);
+    return to;
 }
 
 char *put_right(char *to, uint64_t number, unsigned width)

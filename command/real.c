@@ -89,6 +89,15 @@ static char *put_digits(char *to, const char *digits, int exponent)
 }
 
 #define MOST_PLACES 18 // behind the point: ten to the power of them is exact
+#define FEW_PLACES 4   // as most have
+
+// Whether a number is a decimal of at most 15 digits, with these places or more: with as many as that leaves it is one then, too.
+static int is_decimal(double size, double power, int places)
+{
+    for (; places < MOST_PLACES && size * (power * 10) < 1e15; places++)
+        power *= 10;
+    return (double)(uint64_t)(size * power + 0.5) / power == size;
+}
 
 // A decimal of at most 15 digits, which most numbers are that a person ever typed. Both parts of the division are exact, so it gives the
 // bits back exactly where reading the decimal does; and there is one such decimal at most with so many places.
@@ -101,6 +110,8 @@ static char *put_short(char *to, double real, uint64_t bits)
     for (places = 0; places <= MOST_PLACES && size * power < 1e15; places++, power *= 10) {
         uint64_t whole = (uint64_t)(size * power + 0.5);
 
+        if (places == FEW_PLACES && !is_decimal(size, power, places))
+            return NULL;
         if ((double)whole / power != size)
             continue;
         if (bits >> 63 != 0)

@@ -11,12 +11,7 @@ static const char *const names[] = {"file", "what", "offset", "chunk", "id", "ti
                                     // counts
                                     "chunks", "empty", "live", "carved", "refused", "unread", NULL};
 
-static struct event event; // too large for a stack
-
-void show_margin(const struct shown *shown)
-{
-    out_bytes(&shown->job->out, shown->row.item == DOORTUMBLE_ROW_LIVE ? "            " : "    carved  ", 12);
-}
+static struct reader reader; // too large for a stack
 
 // --------------------------------------------------------------------------------------------------------------- unread
 
@@ -133,7 +128,7 @@ static int is_wanted(const struct filter *filter, doortumble_row row)
 
 static void show_record(struct job *job, uint64_t chunk, doortumble_row row)
 {
-    struct shown shown = {job, &event, chunk, row, 0};
+    struct shown shown = {job, &job->reader->event, chunk, row, 0};
 
     job->counts.live += row.item == DOORTUMBLE_ROW_LIVE;
     job->counts.carved += row.item == DOORTUMBLE_ROW_CARVED;
@@ -150,7 +145,7 @@ static void show_chunk(struct job *job, uint64_t offset, const uint8_t *chunk, u
 {
     uint64_t n;
 
-    event_start(&event, chunk);
+    event_start(&job->reader->event, chunk);
     for (n = 0; n < rows && job->out.error == 0; n++) {
         doortumble_row row = doortumble_row_at(job->rows, n);
 
@@ -165,6 +160,7 @@ static void show_chunk(struct job *job, uint64_t offset, const uint8_t *chunk, u
 
 static void show_begin(struct job *job)
 {
+    job->reader = &reader;
     if (job->form.kind == FORM_TEXT)
         out_text(&job->out, "    offset  what             id  time                              size\n");
 }

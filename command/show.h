@@ -4,6 +4,13 @@
 
 #include "event.h"
 #include "job.h"
+#include "spell.h"
+
+// What records are read with, one after the other.
+struct reader {
+    struct event event;
+    struct spelling spelling; // of the field at hand
+};
 
 // A record's row of the listing, where it stands, and its event.
 struct shown {
@@ -15,7 +22,10 @@ struct shown {
 };
 
 // What a line below a record begins with: a carved one is marked on each.
-void show_margin(const struct shown *shown);
+static inline void show_margin(const struct shown *shown)
+{
+    out_bytes(&shown->job->out, shown->row.item == DOORTUMBLE_ROW_LIVE ? "            " : "    carved  ", 12);
+}
 
 // The fields, in the run's form; to is the struct shown.
 void show_field(void *to, struct event *event, const struct field *field);

@@ -73,14 +73,14 @@ static uint64_t little(const uint8_t *bytes, size_t length)
 }
 
 // Sizes and hex numbers are handed out as bytes; the other numbers by their bits.
-static int is_stored_number(doortumble_item item)
+static int is_stored_number(const doortumble_item *item)
 {
-    return (item.type == TYPE_SIZE_T || item.type == TYPE_HEX_INT32 || item.type == TYPE_HEX_INT64) && item.length <= 8;
+    return (item->type == TYPE_SIZE_T || item->type == TYPE_HEX_INT32 || item->type == TYPE_HEX_INT64) && item->length <= 8;
 }
 
-static int is_number(doortumble_item item)
+static int is_number(const doortumble_item *item)
 {
-    return (item.type >= TYPE_INT8 && item.type <= TYPE_BOOL) || item.type == TYPE_FILETIME || is_stored_number(item);
+    return (item->type >= TYPE_INT8 && item->type <= TYPE_BOOL) || item->type == TYPE_FILETIME || is_stored_number(item);
 }
 
 static char *put_signed(char *to, uint64_t bits)
@@ -105,11 +105,11 @@ static char *put_nan(char *to, uint64_t bits, unsigned digits)
 }
 
 // All numbers that are no number have the same name: their bits are told beside it.
-static char *put_real(char *to, doortumble_item item)
+static char *put_real(char *to, const doortumble_item *item)
 {
-    char *end = item.type == TYPE_REAL32 ? put_real32(to, (uint32_t)item.bits) : put_real64(to, item.bits);
+    char *end = item->type == TYPE_REAL32 ? put_real32(to, (uint32_t)item->bits) : put_real64(to, item->bits);
 
-    return *to == 'N' ? put_nan(end, item.bits, item.type == TYPE_REAL32 ? 8 : 16) : end;
+    return *to == 'N' ? put_nan(end, item->bits, item->type == TYPE_REAL32 ? 8 : 16) : end;
 }
 
 // ---------------------------------------------------------------------------------------------------------------- times
@@ -132,11 +132,9 @@ static int systemtime_ticks(const uint8_t *bytes, uint64_t *ticks)
 
 static char *put_time(struct spelling *spelling, uint64_t ticks)
 {
-    static struct moment moment;
-
     spelling->is_time = 1;
     spelling->ticks = ticks;
-    return moment_put(&moment, spelling->text, ticks);
+    return moment_put(&spelling->moment, spelling->text, ticks);
 }
 
 // ------------------------------------------------------------------------------------------------------- GUIDs and SIDs
@@ -182,54 +180,54 @@ static char *put_sid(char *to, const uint8_t *bytes)
 // A value by its type; a null pointer where it is told by its bytes.
 static char *put_value(struct spelling *spelling, const uint8_t *bytes, const struct field *field)
 {
-    doortumble_item item = field->item;
+    const doortumble_item *item = &field->item;
     char *to = spelling->text;
     uint64_t ticks;
 
-    switch (item.type) {
+    switch (item->type) {
     case TYPE_INT8:
     case TYPE_INT16:
     case TYPE_INT32:
     case TYPE_INT64:
-        return put_signed(to, item.bits);
+        return put_signed(to, item->bits);
     case TYPE_UINT8:
     case TYPE_UINT16:
     case TYPE_UINT32:
     case TYPE_UINT64:
-        return put_number(to, item.bits);
+        return put_number(to, item->bits);
     case TYPE_REAL32:
     case TYPE_REAL64:
         return put_real(to, item);
     case TYPE_BOOL:
-        return put_bool(to, item.bits);
+        return put_bool(to, item->bits);
     case TYPE_GUID:
-        return item.length == 16 ? put_guid(to, bytes) : NULL;
+        return item->length == 16 ? put_guid(to, bytes) : NULL;
     case TYPE_SIZE_T:
-        return is_stored_number(item) ? put_number(to, little(bytes, item.length)) : NULL;
+        return is_stored_number(item) ? put_number(to, little(bytes, item->length)) : NULL;
     case TYPE_HEX_INT32:
     case TYPE_HEX_INT64:
-        return is_stored_number(item) ? put_hex(put_left(to, "0x", 2), little(bytes, item.length), 2 * item.length) : NULL;
+        return is_stored_number(item) ? put_hex(put_left(to, "0x", 2), little(bytes, item->length), 2 * item->length) : NULL;
     case TYPE_FILETIME:
-        return put_time(spelling, item.bits);
+        return put_time(spelling, item->bits);
     case TYPE_SYSTEMTIME:
-        return item.length == 16 && systemtime_ticks(bytes, &ticks) ? put_time(spelling, ticks) : NULL;
+        return item->length == 16 && systemtime_ticks(bytes, &ticks) ? put_time(spelling, ticks) : NULL;
     case TYPE_SID:
-        return item.length >= 8 && item.length == 8 + 4u * bytes[1] ? put_sid(to, bytes) : NULL;
+        return item->length >= 8 && item->length == 8 + 4u * bytes[1] ? put_sid(to, bytes) : NULL;
     case TYPE_BIN_XML:
-        return field->inner == 0 ? NULL : to + sprintf(to, "body %" PRIu32, field->inner);
+        return field->inner == 0 ? NULL : put_number(put_left(to, "body ", 0), field->inner);
     default:
         return NULL;
     }
 }
 
 // A reference is written as in XML.
-static char *put_reference(char *to, struct event *event, doortumble_item item)
+static char *put_reference(char *to, struct event *event, const doortumble_item *item)
 {
     struct name name;
 
-    if (item.kind == DOORTUMBLE_KIND_CHAR_REF)
-        return to + sprintf(to, "&#%u;", item.value);
-    name = name_at(&event->names, item.start);
+    if (item->kind == DOORTUMBLE_KIND_CHAR_REF)
+        return to + sprintf(to, "&#%u;", item->value);
+    name = name_at(&event->names, item->start);
     *to++ = '&';
     memcpy(to, name.text, name.length);
     to += name.length;
@@ -249,29 +247,30 @@ static int are_texts(const uint8_t *bytes, size_t length)
 }
 
 // How a value is told that is not short.
-static enum spelled spelled_long(const uint8_t *bytes, doortumble_item item)
+static enum spelled spelled_long(const uint8_t *bytes, const doortumble_item *item)
 {
-    switch (item.type) {
+    switch (item->type) {
     case TYPE_NULL:
         return SPELLED_NOTHING;
     case TYPE_STRING:
         return SPELLED_TEXT;
     case TYPE_STRING_ARRAY:
-        return are_texts(bytes, item.length) ? SPELLED_TEXTS : SPELLED_BYTES;
+        return are_texts(bytes, item->length) ? SPELLED_TEXTS : SPELLED_BYTES;
     default:
         return SPELLED_BYTES;
     }
 }
 
-void spell_value(struct spelling *spelling, struct event *event, const struct field *field)
+void spell_value(struct spelling *spelling, char *to, struct event *event, const struct field *field)
 {
     char *end;
 
     spelling->is_time = 0;
+    spelling->text = to;
     spelling->length = 0;
     spelling->how = SPELLED_SHORT;
     if (is_reference(&field->item))
-        end = put_reference(spelling->text, event, field->item);
+        end = put_reference(spelling->text, event, &field->item);
     else if (field->item.type == TYPE_NULL)
         end = NULL;
     else
@@ -279,27 +278,28 @@ void spell_value(struct spelling *spelling, struct event *event, const struct fi
     if (end != NULL)
         spelling->length = (size_t)(end - spelling->text);
     else
-        spelling->how = spelled_long(event->chunk + field->item.start, field->item);
+        spelling->how = spelled_long(event->chunk + field->item.start, &field->item);
 }
 
 // --------------------------------------------------------------------------------------------------------- text and texts
 
-static int quoted(struct out *out, const uint8_t *units, size_t count, const char *quote, enum units_style style)
+static int quoted(struct out *out, const uint8_t *units, size_t count, enum units_style style)
 {
+    size_t quotes = style == UNITS_IN_CSV ? 2 : 1;
     int unsound;
 
-    out_text(out, quote);
+    out_bytes(out, "\"\"", quotes);
     unsound = units_out(out, units, count, style);
-    out_text(out, quote);
+    out_bytes(out, "\"\"", quotes);
     return unsound;
 }
 
-int spell_text(struct out *out, const struct event *event, const struct field *field, const char *quote, enum units_style style)
+int spell_text(struct out *out, const struct event *event, const struct field *field, enum units_style style)
 {
-    return quoted(out, event->chunk + field->item.start, field->item.length / 2, quote, style);
+    return quoted(out, event->chunk + field->item.start, field->item.length / 2, style);
 }
 
-int spell_texts(struct out *out, const struct event *event, const struct field *field, const char *quote, enum units_style style)
+int spell_texts(struct out *out, const struct event *event, const struct field *field, enum units_style style)
 {
     const uint8_t *units = event->chunk + field->item.start;
     size_t count = field->item.length / 2;
@@ -311,7 +311,7 @@ int spell_texts(struct out *out, const struct event *event, const struct field *
     for (n = 0; n < count; n++)
         if (units[2 * n] == 0 && units[2 * n + 1] == 0) {
             out_text(out, first == 0 ? "" : ",");
-            unsound |= quoted(out, units + 2 * first, n - first, quote, style);
+            unsound |= quoted(out, units + 2 * first, n - first, style);
             first = n + 1;
         }
     out_text(out, "]");
@@ -338,13 +338,13 @@ int spell_has_bits(const struct field *field)
 
 void spell_bits(struct out *out, const struct event *event, const struct field *field)
 {
-    doortumble_item item = field->item;
+    const doortumble_item *item = &field->item;
 
     if (!spell_has_bits(field))
         return;
-    if (!is_number(item) || item.length > 8)
-        spell_hex(out, event->chunk + item.start, item.length);
+    if (!is_number(item) || item->length > 8)
+        spell_hex(out, event->chunk + item->start, item->length);
     else
-        out_took(out, put_hex(out_room(out, 16), is_stored_number(item) ? little(event->chunk + item.start, item.length) : item.bits,
-                              2 * item.length));
+        out_took(out, put_hex(out_room(out, 16), is_stored_number(item) ? little(event->chunk + item->start, item->length) : item->bits,
+                              2 * item->length));
 }

@@ -1,12 +1,9 @@
 #include "texts.h"
 
-#include <string.h>
-
 static void forget(struct texts *texts)
 {
     texts->count = 0;
     texts->tokens = 0;
-    memset(texts->kept, 0, sizeof texts->kept);
 }
 
 void texts_start(struct texts *texts, const uint8_t *chunk)
@@ -17,6 +14,7 @@ void texts_start(struct texts *texts, const uint8_t *chunk)
 
 static const struct text *keep(struct texts *texts, uint32_t start, uint32_t length, int dependencies, uint32_t count)
 {
+    static const struct note none;
     struct text *text;
     uint32_t n;
 
@@ -31,22 +29,31 @@ static const struct text *keep(struct texts *texts, uint32_t start, uint32_t len
     for (n = 0; n < count; n++) {
         texts->owners[text->first + n] = texts->table[n];
         texts->names[text->first + n] = doortumble_token_at(texts->sheet, n).name;
+        texts->notes[text->first + n] = none;
     }
     texts->tokens += count;
-    texts->kept[dependencies][start] = (uint16_t)texts->count;
+    texts->kept[dependencies][start] = (uint16_t)(text - texts->texts);
     return text;
+}
+
+static const struct text *find(const struct texts *texts, uint32_t start, uint32_t length, int dependencies)
+{
+    unsigned number = texts->kept[dependencies][start];
+    const struct text *text = &texts->texts[number];
+
+    return number < texts->count && text->start == start && text->length == length && text->dependencies == dependencies ? text : NULL;
 }
 
 const struct text *text_at(struct texts *texts, uint32_t start, uint32_t length, int dependencies)
 {
+    const struct text *text;
     uint64_t answer;
-    unsigned kept;
 
     if (start >= TEXT_PLACES)
         return NULL;
-    kept = texts->kept[dependencies][start];
-    if (kept != 0 && texts->texts[kept - 1].length == length)
-        return &texts->texts[kept - 1];
+    text = find(texts, start, length, dependencies);
+    if (text != NULL)
+        return text;
     answer = doortumble_body(texts->chunk, DOORTUMBLE_CHUNK_BYTES, start, length, (uint32_t)dependencies, 0, texts->sheet,
                              sizeof texts->sheet / sizeof *texts->sheet, texts->table, DOORTUMBLE_MOST_TOKENS);
     return doortumble_refused(answer) ? NULL : keep(texts, start, length, dependencies, (uint32_t)doortumble_count(answer));
@@ -65,6 +72,11 @@ const struct text *text_of_instance(struct texts *texts, uint32_t place)
 uint32_t text_owner(const struct texts *texts, const struct text *text, uint32_t element)
 {
     return element < text->count ? texts->owners[text->first + element] : 0;
+}
+
+struct note *text_note(struct texts *texts, const struct text *text, uint32_t token)
+{
+    return text != NULL && token < text->count ? &texts->notes[text->first + token] : NULL;
 }
 
 uint32_t text_name(const struct texts *texts, const struct text *text, uint32_t element)

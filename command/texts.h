@@ -21,14 +21,24 @@ struct text {
     uint32_t count;
 };
 
+// What is noted of a token by whoever asks for the text; all 0 when the text is new.
+struct note {
+    uint32_t above;  // of its path (event.h): what stands above
+    uint32_t start;  // where it is kept
+    uint32_t length; // 0: it is not kept
+    uint8_t asked;   // whether it is the Name of a Data is known
+    uint8_t is_name; // and that it is
+};
+
 struct texts {
     const uint8_t *chunk;
     unsigned count;
     uint32_t tokens;
     struct text texts[TEXTS];
-    uint16_t kept[2][TEXT_PLACES]; // by dependencies and start, a text's number plus 1; 0: none is kept
+    uint16_t kept[2][TEXT_PLACES]; // by dependencies and start, the number of the text if it is kept; else that of any text
     uint32_t owners[TEXT_TOKENS];
     uint32_t names[TEXT_TOKENS];
+    struct note notes[TEXT_TOKENS];
     uint64_t sheet[DOORTUMBLE_MOST_TOKENS * DOORTUMBLE_SHEET_WORDS]; // lent
     uint32_t table[DOORTUMBLE_MOST_TOKENS];                          // lent
 };
@@ -44,6 +54,9 @@ const struct text *text_of_instance(struct texts *texts, uint32_t place);
 
 // The element in which an element stands, plus 1; 0 where it is the root, or the text has no such element.
 uint32_t text_owner(const struct texts *texts, const struct text *text, uint32_t element);
+
+// What is noted of a token; a null pointer where the text has no such token, or is none.
+struct note *text_note(struct texts *texts, const struct text *text, uint32_t token);
 
 // The offset of an element's name.
 uint32_t text_name(const struct texts *texts, const struct text *text, uint32_t element);

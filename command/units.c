@@ -54,7 +54,7 @@ static char *put_special(char *to, unsigned unit, enum units_style style)
 #define TEXT (1 << UNITS_QUOTED | 1 << UNITS_CSV | 1 << UNITS_IN_CSV)
 #define LABEL (TEXT | 1 << UNITS_LABEL)
 #define ALL (LABEL | 1 << UNITS_NAME)
-static const uint8_t plain[128] = {
+static const uint8_t plain[256] = {
     0,     0,     0,     0,     0,     0,     0,     0,     0,     0,     0,     0,     0,     0,     0,     0,     // controls
     0,     0,     0,     0,     0,     0,     0,     0,     0,     0,     0,     0,     0,     0,     0,     0,     //
     LABEL, LABEL, 0,     LABEL, LABEL, LABEL, LABEL, LABEL, LABEL, LABEL, LABEL, LABEL, LABEL, ALL,   ALL,   LABEL, // to /
@@ -110,16 +110,31 @@ static size_t put_other(char **to, const uint8_t *units, size_t left, enum units
     return 1;
 }
 
+// Four units that stand for themselves, as most do. Not 0 where they are that.
+static int put_four(char *to, const uint8_t *units, unsigned bit)
+{
+    to[0] = (char)units[0];
+    to[1] = (char)units[2];
+    to[2] = (char)units[4];
+    to[3] = (char)units[6];
+    return (units[1] | units[3] | units[5] | units[7]) == 0 &&
+           (plain[units[0]] & plain[units[2]] & plain[units[4]] & plain[units[6]] & bit) != 0;
+}
+
 // The units up to end, of so many that there are; the last may take one more. Answers how far it came.
 static size_t put_some(char **to, const uint8_t *units, size_t n, size_t end, size_t count, enum units_style style, int *unsound)
 {
+    unsigned bit = 1u << style;
     char *at = *to;
 
-    while (n < end)
-        if (units[2 * n + 1] == 0 && units[2 * n] < 128 && (plain[units[2 * n]] >> style & 1) != 0)
+    while (n < end) {
+        for (; end - n >= 4 && put_four(at, units + 2 * n, bit); n += 4)
+            at += 4;
+        if (n < end && units[2 * n + 1] == 0 && (plain[units[2 * n]] & bit) != 0)
             *at++ = (char)units[2 * n++];
-        else
+        else if (n < end)
             n += put_other(&at, units + 2 * n, count - n, style, unsound);
+    }
     *to = at;
     return n;
 }

@@ -19,16 +19,18 @@ program, folder = sys.argv[1:]
 def shrinking():
     """The command stands still once nobody reads what it prints; meanwhile the file is cut."""
     path = f"{folder}/shrinking.evtx"
-    with open(path, "wb") as out:
-        out.write(log([run_of(n * 500 + 1, n * 500 + 500) for n in range(40)], 20_001))
-    with subprocess.Popen([program, "list", path], stdout=subprocess.PIPE, stderr=subprocess.PIPE) as run:
-        first = run.stdout.read(1)
-        os.truncate(path, 4096 + 30 * CHUNK + 5000)
-        rest, said = run.communicate(timeout=60)
-    lines = (first + rest).decode().splitlines()
-    hold(run.returncode == 4 and b"became shorter while it was read: 2625536 bytes when it was opened, and it ended at 1975176" in said, "shrinking", said)
-    hold(lines[-2].startswith("   1970176  refused 1 at 0") and lines[-1].startswith("total: 15000 live, 0 carved, 1 refused; 31 chunks"), "shrinking", lines[-2:])
-    os.remove(path)
+    for verb, unread in (("list", ""), ("show", ", 15000 unread")):
+        with open(path, "wb") as out:
+            out.write(log([run_of(n * 500 + 1, n * 500 + 500) for n in range(40)], 20_001))
+        with subprocess.Popen([program, verb, path], stdout=subprocess.PIPE, stderr=subprocess.PIPE) as run:
+            first = run.stdout.read(1)
+            os.truncate(path, 4096 + 30 * CHUNK + 5000)
+            rest, said = run.communicate(timeout=60)
+        lines = (first + rest).decode().splitlines()
+        hold(run.returncode == 4 and b"became shorter while it was read: 2625536 bytes when it was opened, and it ended at 1975176" in said, "shrinking", verb, said)
+        hold(lines[-2].startswith("   1970176  refused 1 at 0") and lines[-1].startswith(f"total: 15000 live, 0 carved, 1 refused{unread}; 31 chunks"),
+             "shrinking", verb, lines[-2:])
+        os.remove(path)
 
 
 def sparse():

@@ -22,12 +22,18 @@ some = random.Random(1)
 BODY = 0x21
 
 
-def instance(definition, *values, number=None):
-    """An instance with its definition in place; a value is its type and its bytes, or for a body in it a list of tokens."""
+def instance(definition, *values, number=None, place=None):
+    """An instance with its definition in place; a value is its type and its bytes, or for a body in it a list of tokens. Instances with the same
+    place, a list, share the definition of the first."""
     def write(r):
         guid = TEMPLATE if number is None else struct.pack("<I", number) + TEMPLATE[4:]
-        r.put("BBIII16s", 0x0C, 1, int.from_bytes(TEMPLATE[:4], "little"), r.after(10), 0, guid)
-        r.sized(lambda: define(r))
+        there = r.after(10)
+        r.put("BBII", 0x0C, 1, int.from_bytes(TEMPLATE[:4], "little"), place[0] if place else there)
+        if not place:
+            r.put("I16s", 0, guid)
+            r.sized(lambda: define(r))
+        if place == []:
+            place.append(there)
         r.put("I", len(values))
         table = len(r.out)
         r.out += bytes(4 * len(values))
@@ -255,6 +261,28 @@ def paths():
     hold(lines[-1].split() == ["E", "body", "1"], "a body without values", lines[-1])
 
 
+def shared():
+    """Records of one definition: below other elements, and with other labels."""
+    inner, outer, other = [], [], []
+
+    def body(label, value):
+        return instance(element("D", [], element("Data", [("Name", substitution(0, 1))], substitution(1, 1), element("X", [], text("x"))), data("n", substitution(1, 1))),
+                        label, (0x01, utf16(value)), place=inner)
+
+    def inside(element_name, place, *tokens):
+        return [instance(element("E", [], element(element_name, [], substitution(0, BODY))), (BODY, [HEADER, *tokens, END]), place=place)]
+    null, one, two = (0x00, b""), (0x01, utf16("one")), (0x01, utf16("two"))
+    given = [(inside("A", outer, body(one, "1")), "E/A", "[one]"), (inside("B", other, body(two, "2")), "E/B", "[two]"), (inside("A", outer, body(null, "3")), "E/A", ""),
+             ([body(null, "4")], "", ""), (inside("A", outer, body(null, "5")), "E/A", ""), ([body(two, "6")], "", "[two]"), (inside("A", outer, body(one, "7")), "E/A", "[one]"),
+             (inside("B", other, body(null, "8")), "E/B", ""), ([body(null, "9")], "", "")]
+    rows, _, _ = show([tokens for tokens, _, _ in given])
+    for n, (row, (_, above, label)) in enumerate(zip(rows, given)):
+        start = f"{above}/D" if above else "D"
+        want = [(f"{start}/Data{label}/@Name", label[1:-1] or None), (f"{start}/Data{label}", str(n + 1)), (f"{start}/Data{label}/X", "x"),
+                (f"{start}/Data[n]/@Name", "n"), (f"{start}/Data[n]", str(n + 1))]
+        hold(fields(row) == [(above, "body 1")] * bool(above) + want, f"shared definition, record {n + 1}", fields(row), want)
+
+
 def labels():
     """What is a label and what is not; and signs in labels and names that would make paths look alike."""
     rows, lines, _ = show([[element("E", [],
@@ -336,6 +364,7 @@ def wanted():
 values()
 reals()
 paths()
+shared()
 labels()
 names()
 unread()
