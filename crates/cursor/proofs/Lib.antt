@@ -4,3 +4,4 @@ pub mod Numbers
 pub mod Magic
 pub mod Units
 pub mod Formed
+pub mod Views

@@ -66,9 +66,6 @@ before-length (u ∷ us) =
     either (λ (m : ℕ). m ≤ suc (length us)) (eqb u 0) 0 (beforeZero us + 1) (λ e. omega arith) (λ e. omega (arith, before-length us))
 
 -- the units before the first zero lie within their text
-pub before-bytes : (t : List ℕ) → 2 * beforeZero (unitsOf t) ≤ length t
-before-bytes t = omega (arith, before-length (unitsOf t), units-length t)
-
 -- a part that goes to the end
 pub tail : (s : List ℕ) (at : ℕ) → take (length s - at) (drop at s) ≡ drop at s
 tail s at = take-all (length s - at) (drop at s) (simp length-drop (omega arith))

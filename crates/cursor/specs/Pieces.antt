@@ -1,6 +1,7 @@
 -- What only the private functions of this crate cite: the definitions of Reads.antt and Text.antt in the pieces that the code has.
+use mathlib.Core.Bool.{Bool}
 use mathlib.Core.List.{List}
-use Prim.Native.Nat.{ℕ}
+use Prim.Native.Nat.{ℕ, _*_}
 use Rattle.cursor.specs.Answer.{Answer, given, _then_}
 use Rattle.cursor.specs.Refusals.{tooFew}
 use Rattle.cursor.specs.Reads.{numberAt}
@@ -17,3 +18,7 @@ unitAfter s v at = numberAt s at 2 then λ _ next. given v next
 
 abbrev pub endedAt : List ℕ → Answer View → Answer View
 endedAt s text = text then unitAfter s
+
+-- the view of n units
+abbrev pub viewAt : ℕ → ℕ → Bool → View
+viewAt at n sound = record { part = record { start = at; len = 2 * n }; sound = sound }

@@ -6,7 +6,6 @@ use crate::Refusal;
 use crate::Text;
 use crate::View;
 use crate::unit_at;
-use crate::well_formed;
 ghost use mathlib.Core.Path.{_≡_};
 ghost use mathlib.Core.Bool.{not, _&&_};
 ghost use Prim.Native.Nat.{_+_, _*_, _≤_};
@@ -14,8 +13,8 @@ ghost use lib.ListN.{length};
 ghost use Rattle.cursor.specs.Answer.{pick};
 ghost use Rattle.cursor.specs.Answers.{textAnswer};
 ghost use Rattle.cursor.specs.Reads.{within, little, bytesOf};
-ghost use Rattle.cursor.specs.Text.{unitsOf, beforeZero, highSurrogate, lowSurrogate, viewOf};
-ghost use Rattle.cursor.specs.Pieces.{tooFewBytes, unitAfter, endedAt};
+ghost use Rattle.cursor.specs.Text.{unitsOf, highSurrogate, lowSurrogate, viewOf};
+ghost use Rattle.cursor.specs.Pieces.{tooFewBytes, unitAfter, endedAt, viewAt};
 
 // Refusal 3, where the read starts.
 pub(crate) fn too_few_bytes(at: usize) -> Refusal
@@ -115,30 +114,35 @@ pub(crate) fn both(a: bool, b: bool) -> bool
     if a { b } else { false }
 }
 
-// How many units of t stand before the first zero unit.
-pub(crate) fn before_zero(t: &[u8]) -> usize
-    ensures { λ r. ⌜ r ≡ beforeZero (unitsOf (now (t .entry))) ⌝ }
-{
-    let mut n: usize = 0;
-    while n < t.len() / 2 {
-        if unit_at(t, n) == 0 {
-            return n;
-        }
-        n += 1;
-    }
-    n
-}
-
-// The view of the text t, which starts at `at`. Every view is made here.
+// The view of the text t, which starts at `at`: the units before the first zero unit, and whether they are well-formed as in `well_formed`.
+// Every view is made here. (One loop does both: most texts are short, and where a loop ends is what takes the time.)
 pub(crate) fn view(t: &[u8], at: usize) -> View
     ensures { λ r. ⌜ r ≡ viewOf at (unitsOf (now (t .entry))) ⌝ }
 {
-    let len = 2 * before_zero(t);
-    let sound = well_formed(&t[..len]);
+    let mut sound = true;
+    let mut high = false;
+    let mut n: usize = 0;
+    while n < t.len() / 2 {
+        let u = unit_at(t, n);
+        if u == 0 {
+            return viewed(at, n, both(sound, !high));
+        }
+        sound = both(sound, may_follow(high, is_low(u)));
+        high = is_high(u);
+        n += 1;
+    }
+    viewed(at, n, both(sound, !high))
+}
+
+// The view of n units.
+fn viewed(at: usize, n: usize, sound: bool) -> View
+    requires { ⌜ n ≤ 9223372036854775807 ⌝ }
+    ensures { λ r. ⌜ r ≡ viewAt at n sound ⌝ }
+{
     View {
         part: Part {
             start: at,
-            len: len,
+            len: 2 * n,
         },
         sound: sound,
     }

@@ -1,39 +1,75 @@
--- `view` meets its contract: the units before the first zero, and whether they are sound. Assumes nothing.
+-- `view` meets its contract. The loop has passed n units, none of them zero: `sound` says whether these were well-formed so far, and `high` whether
+-- the last of them is a high surrogate. Assumes nothing.
 use mathlib.Core.Path.{_≡_, sym, ap, _∙_}
-use mathlib.Core.List.{List}
-use Prim.Native.Nat.{ℕ, _*_}
+use mathlib.Core.Bool.{_&&_}
+use Prim.Native.Nat.{_+_, _-_, _/_, _≤_}
 use native.Mathlib.Omega.{arith}
-use lib.ListN.{take}
-use lib.Seq.{length-take-le}
-use Rattle.cursor.specs.Text.{unitsOf, beforeZero, wellFormed}
-use Rattle.cursor.proofs.Units.{before-bytes, units-front}
 use borrow.Author.Needs.{needs}
+use lib.ListN.{length, drop}
+use Rattle.cursor.specs.Pieces.{viewAt}
+use Rattle.cursor.specs.Text.{unitsOf, beforeZero, shownOf, wellFormedAfter, wellFormed}
+use Rattle.cursor.proofs.Units.{units-length, zero-here, zero-later, zero-nowhere}
+use Rattle.cursor.proofs.Views.{view-more, view-end}
 use Rattle.cursor.proofs.raw.view.Statement.{statement}
 use Rattle.cursor.proofs.raw.view.Tie as tie
 
-before-zero-requires : tie.Need-before-zero-requires
-before-zero-requires c κs = search needs
+abbrev Inv-loop : tie.InvT-loop
+Inv-loop t at sound₀ high₀ n₀ sound high n =
+    (n ≤ length t / 2) × (beforeZero (unitsOf t) ≡ n + beforeZero (drop n (unitsOf t)))
+    × (wellFormed (shownOf (unitsOf t)) ≡ (sound && wellFormedAfter high (drop n (shownOf (unitsOf t)))))
 
-mul-len : tie.Need-mul-len
-mul-len c = omega (arith, c .before-zero .ensures, before-bytes (c .before .before .args .t .now))
+abbrev μ-loop : tie.MeasureT-loop
+μ-loop t at sound₀ high₀ n₀ sound high n = length t / 2 - n
 
-slice-aggregate-well-formed : tie.Need-slice-aggregate-well-formed
-slice-aggregate-well-formed c =
-    let t = c .before .before .before .args .t .now in
-    sym (length-take-le (2 * c .before .before-zero .result) t (omega (arith, c .before .before-zero .ensures, before-bytes t)))
-
-well-formed-requires : tie.Need-well-formed-requires
-well-formed-requires c κs = search needs
-
-returns : tie.Need-returns
+returns : tie.Need-returns Inv-loop μ-loop
 returns c =
-    let a = c .before .before .before .before .args in
+    let a = c .before .before .before .before .before .before .before .args in
+    let l = c .before .before .before .before .before .loop in
     let us = unitsOf (a .t .now) in
-    let n = c .before .before .before-zero .result in
-    let z : n ≡ beforeZero us = c .before .before .before-zero .ensures in
-    let k = c .well-formed .ensures ∙ ap wellFormed (units-front (a .t .now) n ∙ ap (λ (m : ℕ). take m us) z) in
-    λ i. record { part = record { start = a .at; len = 2 * z i }; sound = k i }
+    let h = zero-here us (l .n) (omega (arith, units-length (a .t .now), c .before .before .before .before .loop-test .taken)) (sym (c .before .before .before .unit-at .ensures) ∙ c .before .before .if1 .taken) in
+    let z : beforeZero us ≡ l .n = omega (arith, l .inv .1, h) in
+    c .viewed .ensures ∙ ap (viewAt (a .at) (l .n)) (c .before .both .ensures) ∙ view-end us (l .n) (l .high) (l .sound) (a .at) z (l .inv .2)
+
+loop-again : tie.Need-loop-again Inv-loop μ-loop
+loop-again c =
+    let a = c .before .before .before .before .before .before .before .before .before .args in
+    let l = c .before .before .before .before .before .before .before .loop in
+    let us = unitsOf (a .t .now) in
+    let k = c .before .before .before .before .before .before .loop-test .taken in
+    let m = zero-later us (l .n) (omega (arith, units-length (a .t .now), k)) (λ z. c .before .before .before .before .if1 .left (c .before .before .before .before .before .unit-at .ensures ∙ z)) in (
+      omega (arith, k),
+      omega (arith, l .inv .1, m),
+      simp (c .is-high .ensures, c .before .both2 .ensures, c .before .before .may-follow .ensures, c .before .before .before .is-low .ensures, c .before .before .before .before .before .unit-at .ensures)
+          (l .inv .2 ∙ view-more us (l .n) (l .high) (l .sound) (omega (arith, l .inv .1, m))),
+    )
+
+returns-2 : tie.Need-returns-2 Inv-loop μ-loop
+returns-2 c =
+    let a = c .before .before .before .before .before .args in
+    let l = c .before .before .before .loop in
+    let us = unitsOf (a .t .now) in
+    let h = zero-nowhere us (l .n) (omega (arith, units-length (a .t .now), c .before .before .loop-test .left)) in
+    let z : beforeZero us ≡ l .n = omega (arith, l .inv .1, h) in
+    c .viewed2 .ensures ∙ ap (viewAt (a .at) (l .n)) (c .before .both3 .ensures) ∙ view-end us (l .n) (l .high) (l .sound) (a .at) z (l .inv .2)
 
 pub view-spec : {M : Type 1} → statement M
 view-spec =
-    tie.close (tie.spec before-zero-requires mul-len slice-aggregate-well-formed well-formed-requires returns)
+    tie.close
+    (tie.spec
+    Inv-loop
+    μ-loop
+    (λ c. search needs)
+    (λ c κs. search needs)
+    (λ c κs. search needs)
+    (λ c κs. search needs)
+    returns
+    (λ c κs. search needs)
+    (λ c κs. search needs)
+    (λ c κs. search needs)
+    (λ c κs. search needs)
+    (λ c. search needs)
+    (λ c. search needs)
+    loop-again
+    (λ c κs. search needs)
+    (λ c κs. search needs)
+    returns-2)
