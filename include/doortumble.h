@@ -32,10 +32,10 @@
 //   - The lent words must not overlap the bytes or the words that are given, and nobody may change any of them while the call
 //     runs.
 //
-// Link with target/staticlib/libdoortumble.a, which `rt staticlib doortumble` writes; doortumble_bodies, and it alone, is in
-// target/staticlib/libnest_call.a (`rt staticlib nest_call`), doortumble_event, doortumble_name and doortumble_definition in
-// target/staticlib/libevent_call.a (`rt staticlib event_call`), and doortumble_merge in target/staticlib/libmerge_call.a
-// (`rt staticlib merge_call`). Each links by itself or beside the others.
+// Link with target/staticlib/libdoortumble.a, which `command/archive doortumble` makes; doortumble_bodies, and it alone, is in
+// target/staticlib/libnest_call.a (`command/archive nest_call`), doortumble_event, doortumble_name and doortumble_definition in
+// target/staticlib/libevent_call.a (`command/archive event_call`), and doortumble_merge in target/staticlib/libmerge_call.a
+// (`command/archive merge_call`). Each links by itself or beside the others.
 #ifndef DOORTUMBLE_H
 #define DOORTUMBLE_H
 

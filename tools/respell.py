@@ -73,7 +73,8 @@ def camel(name):
 
 
 def is_of_a_function(path):
-    return path.endswith(("/Proof.antt", "/Answers.antt", "/Invariants.antt")) or "/Proof/" in path
+    below = path.split("/proofs/", 1)[1]
+    return "/" in below and path.endswith(("/Proof.antt", "/Answers.antt", "/Invariants.antt")) or "/Proof/" in path
 
 
 def main():

@@ -1,4 +1,4 @@
-//! Links the port's archives, which `rt staticlib` writes; `ARCHIVES` names another folder of them.
+//! Links the port's archives, which `command/archive` makes; `ARCHIVES` names another folder of them.
 
 use std::env;
 use std::path::PathBuf;
@@ -13,7 +13,7 @@ fn main() {
         let archive = folder.join(format!("lib{library}.a"));
         assert!(
             archive.is_file(),
-            "no {}: 'rt staticlib {library}' writes it",
+            "no {}: 'command/archive {library}' makes it",
             archive.display()
         );
         println!("cargo::rerun-if-changed={}", archive.display());

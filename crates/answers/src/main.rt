@@ -1,8 +1,11 @@
 // Answers a batch of cases (docs/ANSWERS.md): cases come on standard input, their answers go to standard output. What is answered stands in
 // `chunk_answers`, `file_text`, `stream_answers`, `merge_answers` and `event_answers`; this program reads the cases and finds the mode. No rule of
 // the format stands here.
+#![tactic(auto)]
+
 use cursor::Part;
-use libc::{STDIN_FILENO, STDOUT_FILENO};
+use std::io;
+use std::io::Read;
 use stream_answers::Asked;
 use tokens::Flags;
 
@@ -20,7 +23,7 @@ const OUTPUT: usize = 2097152;
 const FULL: usize = 524288;
 
 // A case, without its data.
-#[derive(Drop)]
+#[derive(Clone, Copy)]
 struct Case {
     mode: u8,
     flags: u8,
@@ -30,52 +33,58 @@ struct Case {
 }
 
 // What a turn of the run leaves: how full the output is, and whether the run is over.
-#[derive(Drop)]
+#[derive(Clone, Copy)]
 enum Turn {
     GoesOn(usize),
     Over(usize),
 }
 
-fn main() {
+fn main(rt: HostRuntime) -> io::Result<()> {
     let mut bytes = [0u8; MOST_DATA];
     let mut out = [0u8; OUTPUT];
-    run(&mut out, &mut bytes);
+    run(&rt, &mut rt.stdin(), &mut out, &mut bytes)
 }
 
-// All cases. Nothing says that the input ends, so the turns are counted down from a number that no input reaches.
-fn run(out: &mut [u8], bytes: &mut [u8]) {
+// All cases. Nothing says that the input ends, so the turns are counted up to a number that no input reaches.
+fn run(
+    rt: &impl Print,
+    reader: &mut impl Read,
+    out: &mut [u8],
+    bytes: &mut [u8],
+) -> io::Result<()> {
     let mut at: usize = 0;
-    let mut turns: u64 = 0xFFFF_FFFF_FFFF_FFFF;
-    while 0 < turns {
-        match one_case(out, at, bytes) {
+    for _ in 0..u64::MAX {
+        match one_case(rt, reader, out, at, bytes)? {
             Turn::GoesOn(next) => at = next,
-            Turn::Over(end) => {
-                write(out, end);
-                return;
-            }
+            Turn::Over(end) => return write(rt, out, end),
         }
-        turns -= 1;
     }
-    write(out, at);
+    write(rt, out, at)
 }
 
 // Writes out what the buffer holds.
-fn write(out: &[u8], at: usize) {
+fn write(rt: &impl Print, out: &[u8], at: usize) -> io::Result<()> {
     let filled = Part { start: 0, len: at };
-    io::write_all(STDOUT_FILENO, filled.of(out));
+    rt.write_all(filled.of(out))
 }
 
 // One case: its head is read here.
-fn one_case(out: &mut [u8], at: usize, bytes: &mut [u8]) -> Turn {
+fn one_case(
+    rt: &impl Print,
+    reader: &mut impl Read,
+    out: &mut [u8],
+    at: usize,
+    bytes: &mut [u8],
+) -> io::Result<Turn> {
     let mut head = [0u8; HEAD];
-    let n = io::read_full(STDIN_FILENO, &mut head);
+    let n = input::read_full(reader, &mut head)?;
     if n == 0 {
-        return Turn::Over(at);
+        return Ok(Turn::Over(at));
     }
     if n < HEAD {
-        return bad(out, at);
+        return Ok(bad(out, at));
     }
-    answered(out, at, case_of(&head), bytes)
+    answered(rt, reader, out, at, case_of(&head), bytes)
 }
 
 fn case_of(head: &[u8]) -> Case {
@@ -89,42 +98,49 @@ fn case_of(head: &[u8]) -> Case {
 }
 
 // Its data, and its answer.
-fn answered(out: &mut [u8], at: usize, case: Case, bytes: &mut [u8]) -> Turn {
+fn answered(
+    rt: &impl Print,
+    reader: &mut impl Read,
+    out: &mut [u8],
+    at: usize,
+    case: Case,
+    bytes: &mut [u8],
+) -> io::Result<Turn> {
     let n = case.data;
     if n < least_data(case.mode) {
-        return bad(out, at);
+        return Ok(bad(out, at));
     }
-    if is_read(n, bytes) {
+    if is_read(reader, n, bytes)? {
         let part = Part { start: 0, len: n };
         if n < front(case.mode, part.of(bytes)) {
-            return bad(out, at);
+            return Ok(bad(out, at));
         }
         let end = answer(out, at, case, part.of(bytes));
         let after = print::text(out, end, b".\n");
-        return kept(out, after);
+        return kept(rt, out, after);
     }
-    bad(out, at)
+    Ok(bad(out, at))
 }
 
 // A buffer that is full may have lost something, and ends the run; one that is a quarter full is written out.
-fn kept(out: &mut [u8], at: usize) -> Turn {
+fn kept(rt: &impl Print, out: &mut [u8], at: usize) -> io::Result<Turn> {
     if out.len() <= at {
-        return bad(out, 0);
+        return Ok(bad(out, 0));
     }
     if FULL <= at {
-        write(out, at);
-        return Turn::GoesOn(0);
+        write(rt, out, at)?;
+        return Ok(Turn::GoesOn(0));
     }
-    Turn::GoesOn(at)
+    Ok(Turn::GoesOn(at))
 }
 
 // Whether there is room for n bytes, and the input has them.
-fn is_read(n: usize, bytes: &mut [u8]) -> bool {
+fn is_read(reader: &mut impl Read, n: usize, bytes: &mut [u8]) -> io::Result<bool> {
     if bytes.len() < n {
-        return false;
+        return Ok(false);
     }
-    let got = io::read_full(STDIN_FILENO, &mut bytes[..n]);
-    got == n
+    let got = input::read_full(reader, &mut bytes[..n])?;
+    Ok(got == n)
 }
 
 fn bad(out: &mut [u8], at: usize) -> Turn {

@@ -14,19 +14,19 @@ use Rattle.body.specs.Verdict.{deepest}
 use Rattle.body.specs.declared.reader.Read.{Read}
 use Rattle.body.specs.declared.reader.Read.TheVariants as R
 use Rattle.body.proofs.Agree.{words_length}
-use Rattle.body.proofs.Answers.{verdict-right}
+use Rattle.body.proofs.Answers.{verdict_right}
 use Rattle.body.proofs.Filling.{whole_accepted, whole_refused, whole_table}
 
 pub marks_long : (t lent : List ℕ) → 65536 < length t → MarksJudged t lent lent (refuses wrong_length 0)
 marks_long t lent h =
-    record { verdict = verdict_on t; judged = verdict-right t; answer = rw (lt-leb (length t) 65536 h); noted = rw (lt-leb (length t) 65536 h) }
+    record { verdict = verdict_on t; judged = verdict_right t; answer = rw (lt-leb (length t) 65536 h); noted = rw (lt-leb (length t) 65536 h) }
 
 module _ (t lent left : List ℕ) (h : length t ≤ 65536) (r : Read) (e : whole_of r left ≡ walk t begin 0 lent) where
   made : (o : Result ℕ) → o ≡ count_of (verdict_on t) → MarksJudged t lent left o
   made o q =
       record {
         verdict = verdict_on t;
-        judged = verdict-right t;
+        judged = verdict_right t;
         answer = q ∙ rw (le-leb (length t) 65536 h);
         noted = whole_table t r left lent e ∙ rw (le-leb (length t) 65536 h);
       }

@@ -231,6 +231,17 @@ module _ (r : Bool) (l n : ℕ) (b : Bool) (k : ℕ) where
   at_start w s s' h c x y (m_leading e) = c refl e
   at_start w s s' h c x y (m_instance g e) = y e
   at_start w s s' h c x y (m_root g e o) = x e
+  at_start w _ _ h c x y (m_attribute {a = a} {st = st} _ _) = elim h [ ]
+  at_start w _ _ h c x y (m_empty {a = a} {st = st} _ _) = elim h [ ]
+  at_start w _ _ h c x y (m_start {a = a} {st = st} _ _) = elim h [ ]
+  at_start w _ _ h c x y (m_tag_item {st = st} _ _) = elim h [ ]
+  at_start w _ _ h c x y (m_close {st = st} _) = elim h [ ]
+  at_start w _ _ h c x y (m_child {st = st} _ _) = elim h [ ]
+  at_start w _ _ h c x y (m_target {st = st} _) = elim h [ ]
+  at_start w _ _ h c x y (m_cdata {st = st} _) = elim h [ ]
+  at_start w _ _ h c x y (m_item {st = st} _) = elim h [ ]
+  at_start _ _ _ h c x y (m_closing _) = elim h [ ]
+  at_start w _ _ h c x y (m_data {s = s} _) = elim h [ ]
 
   in_tag : (w : ℕ) (s' : State) (c : Bool) (a v : ℕ) (st : List ℕ) → (k ≡ 7 → if_asked r c ≡ true → ⊥) → (k ≡ 4 → if_asked r (closes c a) ≡ true → ⊥)
       → (k ≡ 3 → if_asked r (closes c a) ≡ true → ⊥) → (OneOfFour k → (a ≡ 0 → ⊥) → ⊥) → Move r l n b k (tag c a v st) w s' → ⊥
@@ -238,6 +249,8 @@ module _ (r : Bool) (l n : ℕ) (b : Bool) (k : ℕ) where
   in_tag w s' c a v st x y z i (m_empty e g) = y e g
   in_tag w s' c a v st x y z i (m_start e g) = z e g
   in_tag w s' c a v st x y z i (m_tag_item e h) = i e h
+  in_tag _ _ c a v st x y z i (m_instance x16 _) = elim x16 [ ]
+  in_tag _ _ c a v st x y z i (m_root x20 _ _) = elim x20 [ ]
 
   in_content : (w : ℕ) (s' : State) (v : ℕ) (st : List ℕ) → (k ≡ 5 → ⊥) → (k ≡ 2 → ⊥) → (k ≡ 9 → ⊥) → (k ≡ 11 → ⊥) → (OneOfFour k → ⊥)
       → Move r l n b k (inside (v ∷ st)) w s' → ⊥
@@ -246,9 +259,13 @@ module _ (r : Bool) (l n : ℕ) (b : Bool) (k : ℕ) where
   in_content w s' v st x y z u i (m_target e) = z e
   in_content w s' v st x y z u i (m_cdata e) = u e
   in_content w s' v st x y z u i (m_item e) = i e
+  in_content _ _ v st x y z u i (m_instance x18 _) = elim x18 [ ]
+  in_content _ _ v st x y z u i (m_root x22 _ _) = elim x22 [ ]
 
   after_root : (w : ℕ) (s' : State) → (k ≡ 9 → ⊥) → Move r l n b k (inside []) w s' → ⊥
   after_root w s' a (m_closing e) = a e
+  after_root _ _ a (m_instance x9 _) = elim x9 [ ]
+  after_root _ _ a (m_root x13 _ _) = elim x13 [ ]
 
   at_done : (w : ℕ) (s' : State) → Move r l n b k done w s' → ⊥
   at_done w s' (m_instance g e) = no_start g
@@ -256,6 +273,8 @@ module _ (r : Bool) (l n : ℕ) (b : Bool) (k : ℕ) where
 
   after_target : (w : ℕ) (s s' : State) (v : ℕ) → (k ≡ 10 → ⊥) → Move r l n b k (target v s) w s' → ⊥
   after_target w s s' v a (m_data e) = a e
+  after_target _ s _ v a (m_instance x9 _) = elim x9 [ ]
+  after_target _ s _ v a (m_root x13 _ _) = elim x13 [ ]
 
 opening_says : (r : Bool) (limit n : ℕ) (b : Bool) (k w : ℕ) (s : State) (st : List ℕ) → k ≡ 2 → depth s ≡ length st
     → ((l : ℕ) → length st < l → Move r l n b k s w (tag b 0 (suc n) st)) → Says r limit n b k s (opening limit b w st n)
@@ -292,6 +311,8 @@ asks_attribute l n b k c a v st w s' x (m_attribute e g) = g
 asks_attribute l n b k c a v st w s' x (m_empty e g) = absurd (omega arith)
 asks_attribute l n b k c a v st w s' x (m_start e g) = absurd (omega arith)
 asks_attribute l n b k c a v st w s' x (m_tag_item i g) = absurd (no_item k (subst (λ (y : ℕ). is_item y ≡ false) (sym x) refl) i)
+asks_attribute l n b k c a v st _ _ x (m_instance x10 _) = elim x10 [ ]
+asks_attribute l n b k c a v st _ _ x (m_root x14 _ _) = elim x14 [ ]
 
 asks_close : (l n : ℕ) (b : Bool) (k : ℕ) (c : Bool) (a v : ℕ) (st : List ℕ) (w : ℕ) (s' : State) → is_item k ≡ false → (k ≡ 7 → ⊥)
     → Move true l n b k (tag c a v st) w s' → closes c a ≡ true
@@ -299,6 +320,8 @@ asks_close l n b k c a v st w s' x y (m_attribute e g) = absurd (y e)
 asks_close l n b k c a v st w s' x y (m_empty e g) = g
 asks_close l n b k c a v st w s' x y (m_start e g) = g
 asks_close l n b k c a v st w s' x y (m_tag_item i g) = absurd (no_item k x i)
+asks_close l n b k c a v st _ _ x y (m_instance x12 _) = elim x12 [ ]
+asks_close l n b k c a v st _ _ x y (m_root x16 _ _) = elim x16 [ ]
 
 pub says : (r : Bool) (limit n : ℕ) (b : Bool) (k : ℕ) (s : State) → Says r limit n b k s (turn r limit s n b k)
 unfolding turn depth

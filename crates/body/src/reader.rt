@@ -11,14 +11,14 @@ use tokens::Token;
 
 // The token after what was read, or a refusal's place and number. (The place comes first: it then lies in memory where the token's number
 // does. An element's answer goes through memory, and a byte laid over that number had it put there in pieces.)
-#[derive(Drop)]
+#[derive(Clone, Copy)]
 pub enum Read {
     Next(usize),
     Refused(usize, u8),
 }
 
 // How far the front of an element was read, with the token after that: the element is over, or its content goes on there.
-#[derive(Drop)]
+#[derive(Clone, Copy)]
 pub enum Tagged {
     Empty(usize),
     Full(usize),

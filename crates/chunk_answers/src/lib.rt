@@ -1,5 +1,7 @@
 // The answers of the modes H, E, R, W and P as text in a lent buffer: a chunk header, its events checksum, one record, a whole walk, and
 // one step of it.
+#![tactic(auto)]
+
 mod chunk_header;
 mod events_checksum;
 mod item;

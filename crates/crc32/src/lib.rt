@@ -2,6 +2,8 @@
 //
 // `specs/Crc.antt` says what the CRC is, bit by bit. The shift is linear for xor, so a number is shifted nibble by nibble, and
 // what a nibble becomes stands in a table. `proofs/On.antt` shows that the CRC goes on from one part to the next.
+#![tactic(auto)]
+
 ghost use Rattle.std.specs.Prelude.{◌≡◌, ◌+◌, ◌*◌, ◌<◌, ◌≤◌, [], ◌∷◌, length, take, drop};
 ghost use Rattle.crc32.specs.Crc.{shift_bits, shift_byte, crc_over, crc_on, crc_of};
 ghost use Rattle.crc32.specs.Helpers.{Ruled, little};

@@ -2,6 +2,8 @@
 //
 // A cursor goes in by value, with the slice lent beside it. Each read answers an enum: what was read and the next cursor,
 // or a refusal with document 01's number and place. Every call takes every position and every slice.
+#![tactic(auto)]
+
 mod raw;
 
 ghost use Rattle.std.specs.Prelude.{◌≡◌, get_or};
@@ -12,7 +14,7 @@ ghost use Rattle.cursor.specs.Reads.{set_to, number_of, starts_with, number_at, 
 ghost use Rattle.cursor.specs.Text.{units_of, well_formed, counted_at, prefixed_at, zero_ended_at};
 
 // Why a call refuses: document 01's number and place. One struct for all crates.
-#[derive(Drop)]
+#[derive(Clone, Copy)]
 pub struct Refusal {
     pub number: u8,
     pub place: usize,
@@ -61,69 +63,69 @@ impl Refusal {
 }
 
 // What a call that counts answers: how many tokens or answers there are, or a refusal. One enum for all crates.
-#[derive(Drop)]
+#[derive(Clone, Copy)]
 pub enum Counted {
     Count(usize),
     Refused(Refusal),
 }
 
 // A position in a slice.
-#[derive(Drop)]
+#[derive(Clone, Copy)]
 pub struct Cursor {
     pub at: usize,
 }
 
 // A part of a slice, by where it starts and how long it is.
-#[derive(Drop)]
+#[derive(Clone, Copy)]
 pub struct Part {
     pub start: usize,
     pub len: usize,
 }
 
 // What of a text is shown: its bytes before its first zero unit, and whether these are well-formed UTF-16.
-#[derive(Drop)]
+#[derive(Clone, Copy)]
 pub struct View {
     pub part: Part,
     pub sound: bool,
 }
 
-#[derive(Drop)]
+#[derive(Clone, Copy)]
 pub enum ReadU8 {
     Value(u8, Cursor),
     Refused(Refusal),
 }
 
-#[derive(Drop)]
+#[derive(Clone, Copy)]
 pub enum ReadU16 {
     Value(u16, Cursor),
     Refused(Refusal),
 }
 
-#[derive(Drop)]
+#[derive(Clone, Copy)]
 pub enum ReadU32 {
     Value(u32, Cursor),
     Refused(Refusal),
 }
 
-#[derive(Drop)]
+#[derive(Clone, Copy)]
 pub enum ReadU64 {
     Value(u64, Cursor),
     Refused(Refusal),
 }
 
-#[derive(Drop)]
+#[derive(Clone, Copy)]
 pub enum Moved {
     To(Cursor),
     Refused(Refusal),
 }
 
-#[derive(Drop)]
+#[derive(Clone, Copy)]
 pub enum Taken {
     Bytes(Part, Cursor),
     Refused(Refusal),
 }
 
-#[derive(Drop)]
+#[derive(Clone, Copy)]
 pub enum Text {
     Units(View, Cursor),
     Refused(Refusal),

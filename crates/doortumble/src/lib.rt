@@ -1,7 +1,9 @@
-// The C calls: sheet and owner table of a stream's body, the moves of a kept sheet, and the listing and the header of a chunk and of a whole
-// log file. The C header is include/doortumble.h.
+// The C calls as a library: sheet and owner table of a stream's body, the moves of a kept sheet, and the listing and the header of a chunk and
+// of a whole log file. The crate doortumble_c exports them to C; the C header is include/doortumble.h.
 //
 // Each takes bytes, numbers and lent words, and answers one packed word. No call keeps anything between calls.
+#![tactic(auto)]
+
 ghost use Rattle.std.specs.Prelude.{◌≡◌};
 ghost use Rattle.cursor.specs.Answers.{count_answer};
 ghost use Rattle.cursor.specs.Lent.{lent_answer, lent_left};
@@ -17,8 +19,7 @@ use cursor::Counted;
 use tokens::Flags;
 
 // The sheet and the owner table of a stream that is an event body: two words a token, and one.
-#[unsafe(no_mangle)]
-pub extern "C" fn doortumble_body(
+pub fn doortumble_body(
     stream: &[u8],
     start: u32,
     length: u32,
@@ -40,8 +41,7 @@ pub extern "C" fn doortumble_body(
 }
 
 // The sheet of a stream from its old one, which has one word a token.
-#[unsafe(no_mangle)]
-pub extern "C" fn doortumble_widen(
+pub fn doortumble_widen(
     stream: &[u8],
     start: u32,
     length: u32,
@@ -58,8 +58,7 @@ pub extern "C" fn doortumble_widen(
 }
 
 // The old sheet of a stream from its new one.
-#[unsafe(no_mangle)]
-pub extern "C" fn doortumble_narrow(
+pub fn doortumble_narrow(
     stream: &[u8],
     start: u32,
     length: u32,
@@ -76,24 +75,21 @@ pub extern "C" fn doortumble_narrow(
 }
 
 // The whole walk of a chunk, five words an answer.
-#[unsafe(no_mangle)]
-pub extern "C" fn doortumble_list(chunk: &[u8], recovery: u32, rows: &mut [u64]) -> u64
+pub fn doortumble_list(chunk: &[u8], recovery: u32, rows: &mut [u64]) -> u64
     ensures { ListPacked chunk.now (flag_of recovery) rows.old rows.new result }
 {
     packed(chunk::list(chunk, recovery != 0, rows))
 }
 
 // The listing of a whole log file, six words a row.
-#[unsafe(no_mangle)]
-pub extern "C" fn doortumble_list_file(file: &[u8], recovery: u32, rows: &mut [u64]) -> u64
+pub fn doortumble_list_file(file: &[u8], recovery: u32, rows: &mut [u64]) -> u64
     ensures { ListFilePacked file.now (flag_of recovery) rows.old rows.new result }
 {
     packed(log_file::list_file(file, recovery != 0, rows))
 }
 
 // The header of a chunk and whether its checksums are right, twelve words.
-#[unsafe(no_mangle)]
-pub extern "C" fn doortumble_chunk_header(chunk: &[u8], words: &mut [u64]) -> u64
+pub fn doortumble_chunk_header(chunk: &[u8], words: &mut [u64]) -> u64
     ensures value { result ≡ packed_of (lent_answer (header_words chunk.now) words.old) }
     ensures words_after { words.new ≡ lent_left (header_words chunk.now) words.old }
 {
@@ -101,8 +97,7 @@ pub extern "C" fn doortumble_chunk_header(chunk: &[u8], words: &mut [u64]) -> u6
 }
 
 // The header of a log file and whether its checksum is right, eleven words.
-#[unsafe(no_mangle)]
-pub extern "C" fn doortumble_file_header(file: &[u8], words: &mut [u64]) -> u64
+pub fn doortumble_file_header(file: &[u8], words: &mut [u64]) -> u64
     ensures value { result ≡ packed_of (lent_answer (file_words file.now) words.old) }
     ensures words_after { words.new ≡ lent_left (file_words file.now) words.old }
 {

@@ -1,5 +1,7 @@
 // The answers of the batch's modes that ask for what an event says (E) and for the name at an offset (J): what the C calls answer and what
 // they leave in the lent words, as text behind what is in a lent buffer.
+#![tactic(auto)]
+
 ghost use Rattle.std.specs.Prelude.{◌≡◌, ◌-◌, ◌^◌, ◌≤◌, leb, take, drop};
 ghost use Rattle.cursor.specs.Answer.{pick};
 ghost use Rattle.print.specs.Text.{Puts, PutsSome};

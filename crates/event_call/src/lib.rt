@@ -1,5 +1,7 @@
-// What an event says, the name at an offset, and where an instance's definition stands, called from C. The C header is include/doortumble.h;
-// the calls have an archive of their own, which links beside the reader's.
+// What an event says, the name at an offset, and where an instance's definition stands, as a library. The crate event_call_c exports the calls
+// to C; the C header is include/doortumble.h, and the calls have an archive of their own, which links beside the reader's.
+#![tactic(auto)]
+
 ghost use Rattle.std.specs.Prelude.{◌≡◌};
 ghost use Rattle.cursor.specs.Lent.{lent_answer, lent_left};
 ghost use Rattle.name.specs.Lookup.{looked_up, found_answer, found_words};
@@ -8,8 +10,7 @@ ghost use Rattle.event.specs.Event.{definition_at_place, definition_words};
 ghost use Rattle.event_call.specs.Calls.{EventPacked};
 
 // The rows of an event, six words for each item.
-#[unsafe(no_mangle)]
-pub extern "C" fn doortumble_event(
+pub fn doortumble_event(
     stream: &[u8],
     start: u32,
     length: u32,
@@ -22,8 +23,7 @@ pub extern "C" fn doortumble_event(
 }
 
 // The name at an offset, in one word.
-#[unsafe(no_mangle)]
-pub extern "C" fn doortumble_name(stream: &[u8], offset: u32, inline: u32, word: &mut [u64]) -> u64
+pub fn doortumble_name(stream: &[u8], offset: u32, inline: u32, word: &mut [u64]) -> u64
     ensures value { result ≡ packed_of (found_answer (looked_up stream.now offset (flag_of inline)) word.old) }
     ensures word_after { word.new ≡ lent_left (found_words (looked_up stream.now offset (flag_of inline))) word.old }
 {
@@ -31,8 +31,7 @@ pub extern "C" fn doortumble_name(stream: &[u8], offset: u32, inline: u32, word:
 }
 
 // Where the tokens of an instance's definition stand, in one word, by the place of the instance's token.
-#[unsafe(no_mangle)]
-pub extern "C" fn doortumble_definition(stream: &[u8], place: u32, word: &mut [u64]) -> u64
+pub fn doortumble_definition(stream: &[u8], place: u32, word: &mut [u64]) -> u64
     ensures value { result ≡ packed_of (lent_answer (definition_words (definition_at_place stream.now place)) word.old) }
     ensures word_after { word.new ≡ lent_left (definition_words (definition_at_place stream.now place)) word.old }
 {

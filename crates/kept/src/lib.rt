@@ -1,6 +1,8 @@
 // Moving the kept sheets: from one word a token to two, and back. Document 02, P3.
 //
 // A given sheet must be the stream's own. It is held to the stream's words by the loop that notes them (crates/sheet).
+#![tactic(auto)]
+
 ghost use Rattle.std.specs.Prelude.{◌≡◌, ◌≤◌, length};
 ghost use Rattle.cursor.specs.Answer.{gives};
 ghost use Rattle.cursor.specs.Answers.{count_answer};

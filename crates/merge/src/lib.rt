@@ -3,6 +3,8 @@
 //
 // A write is three words: tag number, FILETIME and value. Every call takes every list: one that is too long is refused 27, a result that is
 // too short 28, and then the result stays as it was.
+#![tactic(auto)]
+
 mod rows;
 
 ghost use Rattle.cursor.specs.Answers.{count_answer};
@@ -13,7 +15,7 @@ ghost use Rattle.merge.specs.Rows.{wins_by};
 use cursor::{Counted, Refusal};
 
 // Which write of a tag wins where both lists have it.
-#[derive(Drop)]
+#[derive(Clone, Copy)]
 pub enum Rule {
     // Rule one: the primary's newest.
     Primary,

@@ -1,5 +1,7 @@
 // The answer of the batch's mode that merges two lists of writes (M): what the C call answers and what it leaves in the lent words, as text
 // behind what is in a lent buffer.
+#![tactic(auto)]
+
 ghost use Rattle.std.specs.Prelude.{◌≡◌, ◌+◌, ◌*◌, ◌≤◌, length, take};
 ghost use Rattle.cursor.specs.Reads.{number_of};
 ghost use Rattle.print.specs.Text.{Puts, PutsSome};

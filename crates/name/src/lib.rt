@@ -1,4 +1,6 @@
 // Names in a token stream: offset names and inline names, and the hash of a name. The Rust: binxml/name.rs.
+#![tactic(auto)]
+
 mod inline;
 mod lookup;
 mod offset;
@@ -17,7 +19,7 @@ use lookup::{Found, LookedUp};
 use std::num::{wrapping_add_u32, wrapping_sub_u32};
 
 // Whether a name's units are well-formed UTF-16. An offset name's are not judged, which is no case of sound.
-#[derive(Drop)]
+#[derive(Clone, Copy)]
 pub enum Soundness {
     Sound,
     Unsound,
@@ -26,7 +28,7 @@ pub enum Soundness {
 
 // A name: its offset (of an inline name, where it starts), where its units stand, how many they are, and whether they are sound.
 // Of an offset name that does not stand in place only the offset was read: no units, at 0.
-#[derive(Drop)]
+#[derive(Clone, Copy)]
 pub struct Name {
     pub offset: usize,
     pub units: usize,
@@ -34,7 +36,7 @@ pub struct Name {
     pub soundness: Soundness,
 }
 
-#[derive(Drop)]
+#[derive(Clone, Copy)]
 pub enum NameRead {
     Read(Name, Cursor),
     Refused(Refusal),

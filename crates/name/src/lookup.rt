@@ -9,7 +9,7 @@ ghost use Rattle.cursor.specs.Reads.{set_to};
 use crate::{Name, NameRead, Soundness, inline, name_hash};
 use cursor::{Cursor, Moved, ReadU16, ReadU32, Refusal, Taken};
 
-#[derive(Drop)]
+#[derive(Clone, Copy)]
 pub struct Found {
     pub units: usize,
     pub count: usize,
@@ -17,7 +17,7 @@ pub struct Found {
     pub hashed: bool,
 }
 
-#[derive(Drop)]
+#[derive(Clone, Copy)]
 pub enum LookedUp {
     Name(Found),
     Refused(Refusal),

@@ -12,7 +12,7 @@ use lib.Seq.{sets, get_or-take}
 use Rattle.cursor.specs.Answer.{Answer, given, refused, Result, gives, refuses, pick}
 use Rattle.sheet.specs.Sheet.{marks_of}
 use Rattle.body.specs.Reader.{verdict_on}
-use Rattle.body.proofs.Answers.{verdict-right}
+use Rattle.body.proofs.Answers.{verdict_right}
 use Rattle.nest.specs.Going.{Kept}
 use Rattle.nest.specs.Nested.{past_value, ninth_level, deepest_body, Entry, Own, inner_flags, renumbered, entries_of, tokens_of, numbers_from, by_numbers, closed_at, body_at, sheet_of, owners_of}
 use Rattle.nest.specs.Pieces.{full, numbers_of, count_in, sheet_own, table_own, set_at, numbers_to, verdict_answer, VerdictLaid, Numbered, Laid, WalkRead, window_by}
@@ -85,7 +85,7 @@ module _ (s : List ℕ) (room level first : ℕ) (inside : Bool) (start end at :
   by_verdict (gives words) e f x t =
       let w = map (renumbered (numbers_to k n numbers)) words in
       let c : length words ≡ length d =
-      each_word (take k marks) (verdict-right (take k marks)) words e ∙ ap length h.marked ∙ length-map (tokens_of d) _ ∙ length-map d _ in
+      each_word (take k marks) (verdict_right (take k marks)) words e ∙ ap length h.marked ∙ length-map (tokens_of d) _ ∙ length-map d _ in
       let m : length w ≡ length d = length-map words (renumbered (numbers_to k n numbers)) ∙ c in (
         record {
           entries = entries_of level w d;

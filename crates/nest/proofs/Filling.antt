@@ -14,7 +14,7 @@ use Rattle.cursor.specs.Lent.{laid}
 use Rattle.cursor.specs.Refusals.{no_room_number}
 use Rattle.sheet.proofs.Laying.{front, set_laid}
 use Rattle.body.specs.Reader.{verdict_on}
-use Rattle.body.proofs.Answers.{verdict-right}
+use Rattle.body.proofs.Answers.{verdict_right}
 use Rattle.body.proofs.One.{one_verdict}
 use Rattle.tokens.specs.Walk.{window_of}
 use Rattle.tokens.specs.declared.Flags.{Flags}
@@ -145,7 +145,7 @@ module _ (s : List ℕ) (start len : ℕ) (f : Flags) (lent left : Both) (o : Re
 
   by_any : By verdict_on → Nested s start len f lent left o
   by_any h judge right =
-      let e : verdict_on ≡ judge = λ i t. one_verdict t (verdict-right t) (right t) i in
+      let e : verdict_on ≡ judge = λ i t. one_verdict t (verdict_right t) (right t) i in
       subst By e h
 
   pub by_window : (from end : ℕ) → gives (from, end) ≡ window_of s start len
@@ -186,7 +186,7 @@ module _ (s : List ℕ) (start len : ℕ) (f : Flags) (o : Result ℕ) where
 
   count_any : CountBy verdict_on → Counts s start len f o
   count_any h judge right =
-      let e : verdict_on ≡ judge = λ i t. one_verdict t (verdict-right t) (right t) i in
+      let e : verdict_on ≡ judge = λ i t. one_verdict t (verdict_right t) (right t) i in
       subst CountBy e h
 
   pub count_window : (from end : ℕ) → gives (from, end) ≡ window_of s start len → o ≡ entry_count (window_by s 8 false f 0 from end) → Counts s start len f o

@@ -15,7 +15,7 @@ use Rattle.body.specs.Marks.{count_of, unless_long, MarksJudged}
 use Rattle.body.specs.Reader.{Out, accepted, refused, begin, words_from, outcome, verdict_of, verdict_on}
 use Rattle.body.specs.Verdict.{Verdict, a_body, deepest}
 use Rattle.body.specs.Verdict as verdicts
-use Rattle.body.proofs.Answers.{verdict-right}
+use Rattle.body.proofs.Answers.{verdict_right}
 use Rattle.body.proofs.One.{one_verdict}
 use Rattle.nest.specs.Nested.{renumbered}
 use Rattle.nest.specs.Pieces.{set_at, numbers_to, verdict_answer, VerdictLaid}
@@ -42,7 +42,7 @@ its_words (refused k p) words given e = let z : ◌≡◌ {A = ℕ} 0 1 = cc in 
 
 module _ (t lent left : List ℕ) (o : Result ℕ) (h : length t ≤ 65536) (j : MarksJudged t lent left o) where
   same : verdict_on t ≡ j.verdict
-  same = one_verdict t (verdict-right t) j.judged
+  same = one_verdict t (verdict_right t) j.judged
 
   answered : o ≡ count_of (verdict_on t)
   answered = j.answer ∙ ap (λ (b : Bool). pick b (count_of j.verdict) (refuses wrong_length 0)) (le-leb (length t) 65536 h) ∙ ap count_of (sym same)
@@ -59,7 +59,7 @@ module _ (t lent left : List ℕ) (o : Result ℕ) (h : length t ≤ 65536) (j :
       → (words : List ℕ) × ((verdict_on t ≡ gives words) × (length words ≡ length t) × (length t ≤ length lent → take (length t) left ≡ words))
   judged_body m e =
       let y = by_verdict (verdict_on t) refl m (sym answered ∙ e) in
-      let n = each_word t (verdict-right t) y.0 y.1 in
+      let n = each_word t (verdict_right t) y.0 y.1 in
       let w = its_words (outcome true deepest begin 0 t) (words_from true deepest begin 0 t) y.0 y.1 in
       let k : length (words_from true deepest begin 0 t) ≡ length t = ap length w ∙ n in (
         y.0,
@@ -106,7 +106,7 @@ module _ (t lent left : List ℕ) (o : Result ℕ) (h : length t ≤ 65536) (j :
       let N = numbers_to k n numbers in
       let l = length-take-le k numbers room in
       let stay = same_words N k y.0 (number_alone numbers k n room a f)
-      (λ i h. omega (arith, c, h, y.1.1, owned_before t (verdict-right t) y.0 y.1.0 i (omega (arith, h, y.1.1)))) in
+      (λ i h. omega (arith, c, h, y.1.1, owned_before t (verdict_right t) y.0 y.1.0 i (omega (arith, h, y.1.1)))) in
       let run = set_run (take k numbers) y.0 lent 0 (omega (arith, l, c, y.1.1)) (λ i h. get_or-take k numbers i 0 (omega (arith, h, l)) ∙ f i (omega (arith, h, l)) ∙ omega arith) in (
         ap (verdict_answer n N) (sym y.1.0),
         subst (λ (v : Result (List ℕ)). VerdictLaid (take k numbers) N v lent left) (sym y.1.0)

@@ -13,6 +13,5 @@ pub mod Bodies
 pub mod Moving
 pub mod Ending
 pub mod Runs
-pub mod Turning
 pub mod Closing
 pub mod Filling

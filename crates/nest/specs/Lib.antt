@@ -2,4 +2,3 @@
 pub mod Nested
 pub mod Pieces
 pub mod Going
-pub mod Turns

@@ -12,7 +12,6 @@ ghost use Rattle.nest.specs.Nested.{past_value, deepest_body, inner_flags, words
 ghost use Rattle.nest.specs.Going.{Near, Stopped, Passed, Meets};
 ghost use Rattle.nest.specs.Pieces.{full, last_of, instance_token, full_event, token_event, began_event, held_event, set_at, numbers_to, verdict_answer, VerdictLaid, Numbered, WalkRead, window_by};
 
-use crate::turns;
 use cursor::{Counted, Refusal};
 use tokens::{Flags, Held, Instance, NextValue, Sight, Token, Values};
 use value::Kind;
@@ -26,7 +25,7 @@ const NINTH_LEVEL: u8 = 21;
 const PAST_VALUE: u8 = 29;
 
 // Where a walk stands: between tokens, or among the values of the instance at a place.
-#[derive(Drop)]
+#[derive(Clone, Copy)]
 pub enum Place {
     Between(usize),
     Inside(usize, Values),
@@ -34,7 +33,7 @@ pub enum Place {
 
 // What a walk meets next, and where it stands then. (The place comes first in each, and a refusal has a byte and a position as a place has:
 // the answers lie over each other, and where a byte of one lay over a position of another, a record took half as long again.)
-#[derive(Drop)]
+#[derive(Clone, Copy)]
 pub enum Event {
     // An instance's token so far, as long as its head. (The other tokens are noted as they are read, by `run`, as far as their words find room.)
     Token(Place, Token),
@@ -49,7 +48,7 @@ pub enum Event {
 }
 
 // Where a walk stops: what it meets there, how many tokens have been numbered, and how many of its own there are.
-#[derive(Drop)]
+#[derive(Clone, Copy)]
 pub struct Stop {
     pub event: Event,
     pub n: usize,
@@ -188,7 +187,7 @@ fn run(
     let mut i = k;
     let room = lesser(marks.len(), span(ahead, sheet.len() / 2));
     loop {
-        match turns::look(s, here, end, flags) {
+        match tokens::look(s, here, end, flags) {
             Sight::Token(t, c) => {
                 if room <= i {
                     return Stop {

@@ -1,5 +1,7 @@
 // Text in a lent buffer, for the programs. Each function puts something behind what is there and answers how full the buffer is then. A
 // byte that has no room is left out: a buffer that comes back full may have lost something.
+#![tactic(auto)]
+
 ghost use Rattle.std.specs.Prelude.{◌≡◌, ◌∷◌, [], ◌++◌, ◌<◌, ◌≤◌, length, drop};
 ghost use Rattle.print.specs.Text.{ascii, Puts, each, digit as Text·digit, decimal_in, decimal_of, spaced_number, hex_byte, hex_half, hex_word, hex_of, spaced_half, spaced_word, line_of, refused_of};
 

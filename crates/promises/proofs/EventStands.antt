@@ -19,7 +19,7 @@ use Rattle.tokens.proofs.Steps.{All, walk_window}
 use Rattle.sheet.specs.Sheet.{mark_of}
 use Rattle.body.specs.Grammar.{kind_of}
 use Rattle.body.specs.Reader.{verdict_on}
-use Rattle.body.proofs.Answers.{verdict-right}
+use Rattle.body.proofs.Answers.{verdict_right}
 use Rattle.nest.specs.Nested.{deepest_body, inner_flags}
 use Rattle.event.specs.Accepted as accepted
 use Rattle.event.specs.Accepted.{Each, NotPast, ReadableBy, Readable}
@@ -143,13 +143,13 @@ answered (refuses k p) lent count e = absurd (never (sym e))
 -- "the substitution with number m stands for the instance's value m"
 pub value_there : ValueThere
 value_there s start len inline lent left count h =
-    let q = h verdict_on verdict-right in
+    let q = h verdict_on verdict_right in
     let a = answered (event_of verdict_on s inline start len) lent count q.0 in
     let bodies = bodies_at s inline deepest_body start (start + len) in
     let x = (exactly_accepted verdict_on s inline start len).only_accepted a.words a.given in
-    let n = (exactly_when verdict_on verdict-right s start len (inner_flags inline) x.0).0 x.1.0 in
+    let n = (exactly_when verdict_on verdict_right s start len (inner_flags inline) x.0).0 x.1.0 in
     let whole : Each (Whole s inline) bodies = bodies_whole inline deepest_body n.2 in
-    let rows = each_map (value_row s inline bodies whole) (own_only verdict_on verdict-right s inline start len a.words a.given) in
+    let rows = each_map (value_row s inline bodies whole) (own_only verdict_on verdict_right s inline start len a.words a.given) in
     let k = sixes (λ row r. ap length r.of_own.of.says) rows in
     record {
       words = a.words;

@@ -152,7 +152,7 @@ module _ (s : List ℕ) (inline : Bool) where
   unfolding values_at
   values_read no_more = refl
   values_read {table = table} (another {count = count} e h x) = ap (λ (a : Answer Value). a then λ _ next. values_at s (table + 4) next count) e ∙ values_read x
-  values_read {table = table} (w.Values.a_Body {count = count} e h b x q) =
+  values_read {table = table} (w.Values.a_body {count = count} e h b x q) =
       ap (λ (a : Answer Value). a then λ _ next. values_at s (table + 4) next count) e ∙ values_read x
 
 module _ (s : List ℕ) where
@@ -191,7 +191,7 @@ module _ (s : List ℕ) where
     values_down {table = table} {at = at} {inline = inline} left (another {next = next} {count = count} {v = v} e n x) h k =
         value_down s inline left table at count next v h k e (other_down s inline left v (number_of s table 2) n)
         (values_down left x (omega arith) (value_spans s table at v next k e).2)
-    values_down {table = table} {at = at} {inline = inline} left (w.Values.a_Body {next = next} {count = count} {v = v} e c b x q) h k =
+    values_down {table = table} {at = at} {inline = inline} left (w.Values.a_body {next = next} {count = count} {v = v} e c b x q) h k =
         value_down s inline left table at count next v h k e
         (held_down s inline left v (number_of s table 2) c (body_down s inline left v.start (v.start + number_of s table 2) (window_down b refl)))
         (values_down left x (omega arith) (value_spans s table at v next k e).2)

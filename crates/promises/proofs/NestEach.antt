@@ -16,7 +16,7 @@ use Rattle.sheet.specs.Sheet.{words_of, mark_of}
 use Rattle.body.specs.Reader.{verdict_on}
 use Rattle.body.specs.Verdict as verdict
 use Rattle.body.specs.Verdict.{a_body, Judged, read}
-use Rattle.body.proofs.Answers.{verdict-right}
+use Rattle.body.proofs.Answers.{verdict_right}
 use Rattle.nest.specs.Nested.{Entry, Own, tokens_of, numbers_from, renumbered, entries_of}
 use Rattle.promises.specs.NestWindows as w
 use Rattle.promises.specs.NestWindows.{Window, window, Walk, a_token, an_instance, a_header, its_end, Values, no_more, another, at_level, numbers_at, OnItsOwn, OuterOnItsOwn, EachOnItsOwn}
@@ -120,7 +120,7 @@ module _ (s : List ℕ) where
   -- the walk's tokens, and the grammar's words of them
   walked : {level end n at last : ℕ} {f : Flags} {l : List Own} → Walk s level end f n at l last → walk_at s end f at ≡ ok (tokens_of l)
   walked {level = level} {end = end} {n = n} {at = at} {f = f} x =
-      subst (Walks (walk_at s end f at)) (walk_complete verdict_on verdict-right s x) (nest_walks s (below verdict_on verdict-right s level f.inline) end f n at)
+      subst (Walks (walk_at s end f at)) (walk_complete verdict_on verdict_right s x) (nest_walks s (below verdict_on verdict_right s level f.inline) end f n at)
 
   of_window : (level : ℕ) (f : Flags) (n start end : ℕ) (l : List Entry) → Window s level f n start end l → OnItsOwn (walk_at s end f start) level n l
   of_window level f n start end entries (window {l = l} {words = words} d x i r e) =

@@ -16,7 +16,7 @@ use Rattle.body.specs.Grammar.{narrow}
 use Rattle.body.specs.Verdict.{deepest, Refuses, no_body, too_deep, disagreeing, unfinished_body, Verdict, a_body, Judged, unread, read, Both, both, both_of, both_answer, both_left}
 use Rattle.body.specs.Verdict as verdict
 use Rattle.body.specs.Reader.{verdict_on}
-use Rattle.body.proofs.Answers.{verdict-right}
+use Rattle.body.proofs.Answers.{verdict_right}
 use Rattle.body.proofs.One.{one_judgement}
 use Rattle.nest.specs.Nested.{deepest_body, Entry, Own, tokens_of, numbers_from, renumbered, entries_of, by_numbers, closed_at, nest_at, body_at, in_window, nested_of, sheet_of, owners_of, both_words}
 use Rattle.nest.proofs.Numbers.{same_words}
@@ -115,11 +115,11 @@ pub nothing_new : NothingNew
 nothing_new s start len f lent left o none =
     let w = walk_of s start len f in (
       λ x.
-          let a = x verdict_on verdict-right in
-          let e = plain_words verdict_on verdict-right s start len f none in
+          let a = x verdict_on verdict_right in
+          let e = plain_words verdict_on verdict_right s start len f none in
           record {
             verdict = verdict_by verdict_on w;
-            judged = judged_by verdict_on verdict-right w;
+            judged = judged_by verdict_on verdict_right w;
             answer = a.0 ∙ ap (λ (b : Result Both). both_answer b lent) e;
             buffers = a.1 ∙ ap (λ (b : Result Both). both_left b lent) e;
           },

@@ -13,7 +13,7 @@ use Rattle.cursor.specs.Refusals.{no_room_number}
 use Rattle.cursor.proofs.Choice.{either}
 use Rattle.tokens.specs.declared.Flags.{Flags}
 use Rattle.body.specs.Reader.{verdict_on}
-use Rattle.body.proofs.Answers.{verdict-right}
+use Rattle.body.proofs.Answers.{verdict_right}
 use Rattle.body.specs.Verdict.{Both, both, followed, both_answer, written_by, both_left}
 use Rattle.nest.specs.Nested.{Entry, nested_of, sheet_of, owners_of, both_words}
 use Rattle.promises.specs.NestWindows.{Accepted, CallAccepts}
@@ -45,16 +45,16 @@ counts w lent m =
 by_result : (s : List ℕ) (start len : ℕ) (f : Flags) (lent : Both) (m : ℕ) (x : Result (List Entry)) → nested_of verdict_on s start len f ≡ x
     → both_answer (both_words x) lent ≡ gives m → (l : List Entry) × (Accepted s start len f l × (m ≡ length l))
 by_result s start len f lent m (gives l) e q =
-    (l, ((exactly_when verdict_on verdict-right s start len f l).0 e, counts (both (sheet_of l) (owners_of l)) lent m q ∙ length-map l (λ e. e.word)))
+    (l, ((exactly_when verdict_on verdict_right s start len f l).0 e, counts (both (sheet_of l) (owners_of l)) lent m q ∙ length-map l (λ e. e.word)))
 by_result s start len f lent m (refuses k p) e q = not_both_ways m k p q
 
 -- "With room, the call accepts exactly when"
 pub call_accepts : CallAccepts
 call_accepts s start len f lent left o x =
-    let a = x verdict_on verdict-right in
+    let a = x verdict_on verdict_right in
     record {
       accepts = λ l y room.
-          let e = (exactly_when verdict_on verdict-right s start len f l).1 y in
+          let e = (exactly_when verdict_on verdict_right s start len f l).1 y in
           let w = both (sheet_of l) (owners_of l) in
           let b = both_roomy w lent room.0 room.1 in (
             a.0 ∙ ap (λ (z : Result (List Entry)). both_answer (both_words z) lent) e ∙ b ∙ ap gives (length-map l (λ e. e.word)),

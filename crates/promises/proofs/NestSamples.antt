@@ -15,7 +15,7 @@ use Rattle.tokens.specs.declared.Flags.{Flags}
 use Rattle.body.specs.Grammar.{kind_of}
 use Rattle.body.specs.Reader.{opening, turn, ended, outcome, words_from, verdict_on}
 use Rattle.body.specs.Verdict.{Both, both_answer, both_left}
-use Rattle.body.proofs.Answers.{verdict-right}
+use Rattle.body.proofs.Answers.{verdict_right}
 use Rattle.nest.specs.Nested.{Entry, values_from, nest_from, body_at, nested_of, both_words, Nested}
 use Rattle.promises.specs.NestSamples.{offset_names, Sample, All, samples}
 use Rattle.promises.proofs.NestOne.{one_judge}
@@ -24,7 +24,7 @@ use Rattle.promises.proofs.NestOne.{one_judge}
 by_reader : (s : List ℕ) (start len : ℕ) (f : Flags) (lent left : Both) (o : Result ℕ) → both_answer (both_words (nested_of verdict_on s start len f)) lent ≡ o
     → both_left (both_words (nested_of verdict_on s start len f)) lent ≡ left → Nested s start len f lent left o
 by_reader s start len f lent left o e q judge says =
-    let j = one_judge.1 verdict_on judge verdict-right says s start len f in (
+    let j = one_judge.1 verdict_on judge verdict_right says s start len f in (
       sym e ∙ ap (λ (x : Result (List Entry)). both_answer (both_words x) lent) j,
       sym q ∙ ap (λ (x : Result (List Entry)). both_left (both_words x) lent) j,
     )

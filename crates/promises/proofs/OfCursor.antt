@@ -200,8 +200,8 @@ begins κs a x y s t p q = p ∙ sym q
 pub unit_at : Single 1 unit_atK.ps unit_atK.r unit_atR.Post
 unit_at κs a x y s t p q = p ∙ sym q
 
-pub well_formed_lem : Single 1 well_formedK.ps well_formedK.r well_formedR.Post
-well_formed_lem κs a x y s t p q = p ∙ sym q
+pub well_formed : Single 1 well_formedK.ps well_formedK.r well_formedR.Post
+well_formed κs a x y s t p q = p ∙ sym q
 
 -- of the part that is handed back, its bytes
 pub of : (κs : Lfts 1) (a : Dens κs ofK.ps) (x y : (res_t ofK.r κs).Denot) (s t : AtExit (ended_of 1 ofK.ps ofK.r) κs)

@@ -85,9 +85,9 @@ pub chunk_header : (κs : Lfts 2) (a : Dens κs chunkHeaderK.ps) (x y : (res_t c
     → chunkHeaderR.Post κs a x s → chunkHeaderR.Post κs a y t → (x ≡ y) × (s.1.0.now ≡ t.1.0.now)
 chunk_header κs a x y s t p q = (p.0 ∙ sym q.0, p.1 ∙ sym q.1)
 
-pub file_header_lem : (κs : Lfts 2) (a : Dens κs fileHeaderK.ps) (x y : (res_t fileHeaderK.r κs).Denot) (s t : AtExit (ended_of 2 fileHeaderK.ps fileHeaderK.r) κs)
+pub file_header : (κs : Lfts 2) (a : Dens κs fileHeaderK.ps) (x y : (res_t fileHeaderK.r κs).Denot) (s t : AtExit (ended_of 2 fileHeaderK.ps fileHeaderK.r) κs)
     → fileHeaderR.Post κs a x s → fileHeaderR.Post κs a y t → (x ≡ y) × (s.1.0.now ≡ t.1.0.now)
-file_header_lem κs a x y s t p q = (p.0 ∙ sym q.0, p.1 ∙ sym q.1)
+file_header κs a x y s t p q = (p.0 ∙ sym q.0, p.1 ∙ sym q.1)
 
 pub checksum : Single 1 checksumK.ps checksumK.r checksumR.Post
 checksum κs a x y s t p q = p ∙ sym q

@@ -70,6 +70,6 @@ pub event_rows : (κs : Lfts 2) (a : Dens κs rowsK.ps) (x y : (res_t rowsK.r κ
 event_rows κs a x y s t p q = some_one _ _ _ _ _ _ _ (λ t u. text_one _ _ _ _ _ t u) p q
 
 -- and of mode J
-pub looked_up_lem : (κs : Lfts 2) (a : Dens κs lookedK.ps) (x y : (res_t lookedK.r κs).Denot) (s t : AtExit (ended_of 2 lookedK.ps lookedK.r) κs)
+pub looked_up : (κs : Lfts 2) (a : Dens κs lookedK.ps) (x y : (res_t lookedK.r κs).Denot) (s t : AtExit (ended_of 2 lookedK.ps lookedK.r) κs)
     → lookedR.Post κs a x s → lookedR.Post κs a y t → (s.0.now ≡ t.0.now) × (x ≡ y)
-looked_up_lem κs a x y s t p q = puts_one _ _ _ _ _ _ _ _ refl p q
+looked_up κs a x y s t p q = puts_one _ _ _ _ _ _ _ _ refl p q

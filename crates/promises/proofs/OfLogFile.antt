@@ -89,8 +89,8 @@ pub lay_file_header : (κs : Lfts 2) (a : Dens κs layK.ps) (x y : (res_t layK.r
     → layR.Post κs a x s → layR.Post κs a y t → (x ≡ y) × (s.1.0.now ≡ t.1.0.now)
 lay_file_header κs a x y s t p q = (counted_one x y _ p.0 q.0, p.1 ∙ sym q.1)
 
-pub piece_at_lem : Single 1 pieceK.ps pieceK.r pieceR.Post
-piece_at_lem κs a x y s t p q = piece_one x y _ p q
+pub piece_at : Single 1 pieceK.ps pieceK.r pieceR.Post
+piece_at κs a x y s t p q = piece_one x y _ p q
 
 pub file_lists_by : (s : List ℕ) (recover : Bool) (lent m n : List ℕ) (x y : Result ℕ) (f : Answer FileHeader) → FileListsOn s recover lent m x f
     → FileListsOn s recover lent n y f → (x ≡ y) × (m ≡ n)

@@ -7,7 +7,7 @@ use denote.Triple.Clauses.{AtExit}
 use Rattle.cursor.specs.Answers.{count_answer}
 use Rattle.body.specs.Reader.{verdict_on}
 use Rattle.body.specs.Verdict.{Both, both}
-use Rattle.body.proofs.Answers.{verdict-right}
+use Rattle.body.proofs.Answers.{verdict_right}
 use Rattle.nest.proofs.count.Kinds as countK
 use Rattle.nest.proofs.count.Reads as countR
 use Rattle.nest.proofs.fill.Kinds as fillK
@@ -30,7 +30,7 @@ fill κs a x y s t p q =
 -- "how many tokens there are, or the refusal"
 pub count : (κs : Lfts 1) (a : Dens κs countK.ps) (x y : (res_t countK.r κs).Denot) (s t : AtExit (ended_of 1 countK.ps countK.r) κs)
     → countR.Post κs a x s → countR.Post κs a y t → x ≡ y
-count κs a x y s t p q = counted_one x y _ (p verdict_on verdict-right) (q verdict_on verdict-right)
+count κs a x y s t p q = counted_one x y _ (p verdict_on verdict_right) (q verdict_on verdict_right)
 
 pub decides : (κs : Lfts 3) (a : Dens κs fillK.ps) (x : (res_t fillK.r κs).Denot) (s : AtExit (ended_of 3 fillK.ps fillK.r) κs) → fillR.Post κs a x s
     → Decided a.0.now a.1.0 a.1.1.0 a.1.1.1.0 (both a.1.1.1.1.0.now a.1.1.1.1.1.0.now)

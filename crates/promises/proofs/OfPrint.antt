@@ -12,22 +12,22 @@ use Rattle.print.proofs.decimal.Kinds as decimalK
 use Rattle.print.proofs.decimal.Reads as decimalR
 use Rattle.print.proofs.number.Kinds as numberK
 use Rattle.print.proofs.number.Reads as numberR
-use Rattle.print.proofs.hex_byte.Kinds as hex-byteK
-use Rattle.print.proofs.hex_byte.Reads as hex-byteR
-use Rattle.print.proofs.hex_half.Kinds as hex-halfK
-use Rattle.print.proofs.hex_half.Reads as hex-halfR
-use Rattle.print.proofs.hex_word.Kinds as hex-wordK
-use Rattle.print.proofs.hex_word.Reads as hex-wordR
+use Rattle.print.proofs.hex_byte.Kinds as hex_byteK
+use Rattle.print.proofs.hex_byte.Reads as hex_byteR
+use Rattle.print.proofs.hex_half.Kinds as hex_halfK
+use Rattle.print.proofs.hex_half.Reads as hex_halfR
+use Rattle.print.proofs.hex_word.Kinds as hex_wordK
+use Rattle.print.proofs.hex_word.Reads as hex_wordR
 use Rattle.print.proofs.hex.Kinds as hexK
 use Rattle.print.proofs.hex.Reads as hexR
 use Rattle.print.proofs.numbers.Kinds as numbersK
 use Rattle.print.proofs.numbers.Reads as numbersR
 use Rattle.print.proofs.halves.Kinds as halvesK
 use Rattle.print.proofs.halves.Reads as halvesR
-use Rattle.print.proofs.hex_words.Kinds as hex-wordsK
-use Rattle.print.proofs.hex_words.Reads as hex-wordsR
-use Rattle.print.proofs.hex_halves.Kinds as hex-halvesK
-use Rattle.print.proofs.hex_halves.Reads as hex-halvesR
+use Rattle.print.proofs.hex_words.Kinds as hex_wordsK
+use Rattle.print.proofs.hex_words.Reads as hex_wordsR
+use Rattle.print.proofs.hex_halves.Kinds as hex_halvesK
+use Rattle.print.proofs.hex_halves.Reads as hex_halvesR
 use Rattle.print.proofs.line.Kinds as lineK
 use Rattle.print.proofs.line.Reads as lineR
 use Rattle.print.proofs.refused.Kinds as refusedK
@@ -49,16 +49,16 @@ pub number : (κs : Lfts 1) (a : Dens κs numberK.ps) (x y : (res_t numberK.r κ
     → numberR.Post κs a x s → numberR.Post κs a y t → (s.0.now ≡ t.0.now) × (x ≡ y)
 number κs a x y s t p q = puts_one _ _ _ _ _ _ _ _ refl p q
 
-pub hex_byte_lem : (κs : Lfts 1) (a : Dens κs hex-byteK.ps) (x y : (res_t hex-byteK.r κs).Denot) (s t : AtExit (ended_of 1 hex-byteK.ps hex-byteK.r) κs)
-    → hex-byteR.Post κs a x s → hex-byteR.Post κs a y t → (s.0.now ≡ t.0.now) × (x ≡ y)
-hex_byte_lem κs a x y s t p q = puts_one _ _ _ _ _ _ _ _ refl p q
+pub hex_byte : (κs : Lfts 1) (a : Dens κs hex_byteK.ps) (x y : (res_t hex_byteK.r κs).Denot) (s t : AtExit (ended_of 1 hex_byteK.ps hex_byteK.r) κs)
+    → hex_byteR.Post κs a x s → hex_byteR.Post κs a y t → (s.0.now ≡ t.0.now) × (x ≡ y)
+hex_byte κs a x y s t p q = puts_one _ _ _ _ _ _ _ _ refl p q
 
-pub hex_half : (κs : Lfts 1) (a : Dens κs hex-halfK.ps) (x y : (res_t hex-halfK.r κs).Denot) (s t : AtExit (ended_of 1 hex-halfK.ps hex-halfK.r) κs)
-    → hex-halfR.Post κs a x s → hex-halfR.Post κs a y t → (s.0.now ≡ t.0.now) × (x ≡ y)
+pub hex_half : (κs : Lfts 1) (a : Dens κs hex_halfK.ps) (x y : (res_t hex_halfK.r κs).Denot) (s t : AtExit (ended_of 1 hex_halfK.ps hex_halfK.r) κs)
+    → hex_halfR.Post κs a x s → hex_halfR.Post κs a y t → (s.0.now ≡ t.0.now) × (x ≡ y)
 hex_half κs a x y s t p q = puts_one _ _ _ _ _ _ _ _ refl p q
 
-pub hex_word : (κs : Lfts 1) (a : Dens κs hex-wordK.ps) (x y : (res_t hex-wordK.r κs).Denot) (s t : AtExit (ended_of 1 hex-wordK.ps hex-wordK.r) κs)
-    → hex-wordR.Post κs a x s → hex-wordR.Post κs a y t → (s.0.now ≡ t.0.now) × (x ≡ y)
+pub hex_word : (κs : Lfts 1) (a : Dens κs hex_wordK.ps) (x y : (res_t hex_wordK.r κs).Denot) (s t : AtExit (ended_of 1 hex_wordK.ps hex_wordK.r) κs)
+    → hex_wordR.Post κs a x s → hex_wordR.Post κs a y t → (s.0.now ≡ t.0.now) × (x ≡ y)
 hex_word κs a x y s t p q = puts_one _ _ _ _ _ _ _ _ refl p q
 
 pub hex : (κs : Lfts 2) (a : Dens κs hexK.ps) (x y : (res_t hexK.r κs).Denot) (s t : AtExit (ended_of 2 hexK.ps hexK.r) κs)
@@ -73,12 +73,12 @@ pub halves : (κs : Lfts 2) (a : Dens κs halvesK.ps) (x y : (res_t halvesK.r κ
     → halvesR.Post κs a x s → halvesR.Post κs a y t → (s.0.now ≡ t.0.now) × (x ≡ y)
 halves κs a x y s t p q = puts_one _ _ _ _ _ _ _ _ refl p q
 
-pub hex_words : (κs : Lfts 2) (a : Dens κs hex-wordsK.ps) (x y : (res_t hex-wordsK.r κs).Denot) (s t : AtExit (ended_of 2 hex-wordsK.ps hex-wordsK.r) κs)
-    → hex-wordsR.Post κs a x s → hex-wordsR.Post κs a y t → (s.0.now ≡ t.0.now) × (x ≡ y)
+pub hex_words : (κs : Lfts 2) (a : Dens κs hex_wordsK.ps) (x y : (res_t hex_wordsK.r κs).Denot) (s t : AtExit (ended_of 2 hex_wordsK.ps hex_wordsK.r) κs)
+    → hex_wordsR.Post κs a x s → hex_wordsR.Post κs a y t → (s.0.now ≡ t.0.now) × (x ≡ y)
 hex_words κs a x y s t p q = puts_one _ _ _ _ _ _ _ _ refl p q
 
-pub hex_halves : (κs : Lfts 2) (a : Dens κs hex-halvesK.ps) (x y : (res_t hex-halvesK.r κs).Denot) (s t : AtExit (ended_of 2 hex-halvesK.ps hex-halvesK.r) κs)
-    → hex-halvesR.Post κs a x s → hex-halvesR.Post κs a y t → (s.0.now ≡ t.0.now) × (x ≡ y)
+pub hex_halves : (κs : Lfts 2) (a : Dens κs hex_halvesK.ps) (x y : (res_t hex_halvesK.r κs).Denot) (s t : AtExit (ended_of 2 hex_halvesK.ps hex_halvesK.r) κs)
+    → hex_halvesR.Post κs a x s → hex_halvesR.Post κs a y t → (s.0.now ≡ t.0.now) × (x ≡ y)
 hex_halves κs a x y s t p q = puts_one _ _ _ _ _ _ _ _ refl p q
 
 pub line : (κs : Lfts 3) (a : Dens κs lineK.ps) (x y : (res_t lineK.r κs).Denot) (s t : AtExit (ended_of 3 lineK.ps lineK.r) κs)

@@ -5,8 +5,8 @@ use Rattle.search.proofs.resync.Kinds as resyncK
 use Rattle.search.proofs.resync.Reads as resyncR
 use Rattle.search.proofs.carve.Kinds as carveK
 use Rattle.search.proofs.carve.Reads as carveR
-use Rattle.search.proofs.live_end_lem.Kinds as endK
-use Rattle.search.proofs.live_end_lem.Reads as endR
+use Rattle.search.proofs.live_end.Kinds as endK
+use Rattle.search.proofs.live_end.Reads as endR
 use Rattle.promises.proofs.One.{Single}
 
 pub resync : Single 1 resyncK.ps resyncK.r resyncR.Post
@@ -15,5 +15,5 @@ resync κs a x y s t p q = one _ _ x y p q
 pub carve : Single 1 carveK.ps carveK.r carveR.Post
 carve κs a x y s t p q = one _ _ x y p q
 
-pub live_end_lem : Single 0 endK.ps endK.r endR.Post
-live_end_lem κs a x y s t p q = p ∙ sym q
+pub live_end : Single 0 endK.ps endK.r endR.Post
+live_end κs a x y s t p q = p ∙ sym q

@@ -21,8 +21,8 @@ use Rattle.tokens.specs.declared.Window.{Window}
 use Rattle.tokens.specs.declared.Window.TheVariants as W
 use Rattle.tokens.proofs.step.Kinds as stepK
 use Rattle.tokens.proofs.step.Reads as stepR
-use Rattle.nest.proofs.turns.look.Kinds as lookK
-use Rattle.nest.proofs.turns.look.Reads as lookR
+use Rattle.tokens.proofs.look.Kinds as lookK
+use Rattle.tokens.proofs.look.Reads as lookR
 use Rattle.tokens.proofs.window_of.Kinds as windowK
 use Rattle.tokens.proofs.window_of.Reads as windowR
 use Rattle.tokens.proofs.Values.of.Kinds as ofK

@@ -86,9 +86,9 @@ pub chunk_header : (κs : Lfts 2) (a : Dens κs chunkHeaderK.ps) (x : (res_t chu
     → chunkHeaderR.Post κs a x s → unpacked_of x ≡ lent_answer (header_words a.0.now) a.1.0.now
 chunk_header κs a x s p = ap unpacked_of p.0 ∙ chunk_header_kept a.0.now a.1.0.now
 
-pub file_header_lem : (κs : Lfts 2) (a : Dens κs fileHeaderK.ps) (x : (res_t fileHeaderK.r κs).Denot) (s : AtExit (ended_of 2 fileHeaderK.ps fileHeaderK.r) κs)
+pub file_header : (κs : Lfts 2) (a : Dens κs fileHeaderK.ps) (x : (res_t fileHeaderK.r κs).Denot) (s : AtExit (ended_of 2 fileHeaderK.ps fileHeaderK.r) κs)
     → fileHeaderR.Post κs a x s → unpacked_of x ≡ lent_answer (file_words a.0.now) a.1.0.now
-file_header_lem κs a x s p = ap unpacked_of p.0 ∙ file_header_kept a.0.now a.1.0.now
+file_header κs a x s p = ap unpacked_of p.0 ∙ file_header_kept a.0.now a.1.0.now
 
 pub event : (κs : Lfts 2) (a : Dens κs eventK.ps) (x : (res_t eventK.r κs).Denot) (s : AtExit (ended_of 2 eventK.ps eventK.r) κs)
     → GoodsP κs eventK.ps a → Bytes a.0.now → eventR.Post κs a x s

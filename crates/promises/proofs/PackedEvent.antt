@@ -21,7 +21,7 @@ use Rattle.sheet.specs.Sheet.{mark_of, marks_of}
 use Rattle.body.specs.Reader.{verdict_on}
 use Rattle.body.specs.Verdict.{Verdict, a_body}
 use Rattle.body.specs.Verdict as verdict
-use Rattle.body.proofs.Answers.{verdict-right}
+use Rattle.body.proofs.Answers.{verdict_right}
 use Rattle.nest.specs.Nested.{deepest_body, inner_flags, Entry, nested_of}
 use Rattle.event.specs.Accepted.{Each}
 use Rattle.event.specs.Event.{Span, Text, definition_flags, definition_of, is_item, is_past, hung_at, row_with, item_told, joined, followed_by, rows_from, text_rows, root_mark, root_at, bodies_at, judged_text, text_by, text_within, text_on, text_of, rows_of, rows_in, event_of, event_answer, Events, definition_at_place, definition_words}
@@ -142,18 +142,18 @@ module _ (s : List ℕ) (bytes : Bytes s) (start len : ℕ) (u32 : start < 2 ^ 3
       let bodies = bodies_at s inline deepest_body start (start + len) in
       let few = bodies_few s inline start len l e in
       rows_fit (length bodies * length s) (rows_of verdict_on s inline 0 bodies) (mul-le-mul few.2 few.1) (rows_few s verdict_on inline 0 bodies)
-      (rows_small verdict_on verdict-right s bytes few.1 inline 0 bodies (bodies_start s inline deepest_body start (start + len) few.0))
+      (rows_small verdict_on verdict_right s bytes few.1 inline 0 bodies (bodies_start s inline deepest_body start (start + len) few.0))
   by_nest (refuses k p) e h = h
 
   pub event_fits : RowsFit (event_of verdict_on s inline start len)
   event_fits =
       let f = inner_flags inline in
-      by_nest (nested_of verdict_on s start len f) refl (nested_small verdict_on verdict-right s bytes start len f u32)
+      by_nest (nested_of verdict_on s start len f) refl (nested_small verdict_on verdict_right s bytes start len f u32)
 
   -- the answer comes back
   pub event_kept : (lent left : List ℕ) (c : Result ℕ) → Events s start len inline lent left c → unpacked_of (packed_of c) ≡ c
   event_kept lent left c x =
-      answer_kept c (subst InBits (sym (x verdict_on verdict-right).0) (event_bits lent (event_of verdict_on s inline start len) event_fits))
+      answer_kept c (subst InBits (sym (x verdict_on verdict_right).0) (event_bits lent (event_of verdict_on s inline start len) event_fits))
 
   -- so what a caller takes from the call's word is the answer that the definition allows
   pub event_told : (lent left : List ℕ) (word : ℕ) → EventPacked s start len inline lent left word → Events s start len inline lent left (unpacked_of word)

@@ -24,7 +24,7 @@ use Rattle.sheet.specs.Sheet.{marks_of}
 use Rattle.body.specs.Reader.{verdict_on}
 use Rattle.body.specs.Verdict.{Verdict, a_body, Both, both, both_answer}
 use Rattle.body.specs.Verdict as verdict
-use Rattle.body.proofs.Answers.{verdict-right}
+use Rattle.body.proofs.Answers.{verdict_right}
 use Rattle.nest.specs.Nested.{bin_xml, deepest_body, Entry, Own, own, Inner, held_in, reading_on, values_from, held_by, onward, nest_from, nest_at, numbers_from, tokens_of, by_numbers, inner_flags, closed_at, body_at, in_window, nested_of, sheet_of, owners_of, both_words, Nested}
 use Rattle.nest.proofs.Nesting.{values_between}
 use Rattle.nest.proofs.Stacks.{sheet_length}
@@ -198,8 +198,8 @@ module _ (s : List ℕ) (bytes : Bytes s) (start len : ℕ) (u32 : start < 2 ^ 3
   pub bodies_kept : (lent left : Both) (c : Result ℕ) → Nested s start len f lent left c → unpacked_of (packed_of c) ≡ c
   bodies_kept lent left c x =
       answer_kept c
-      (subst InBits (sym (x verdict_on verdict-right).0)
-      (entries_bits lent (nested_of verdict_on s start len f) (λ l e. (places_rise verdict_on s start len f l e).1) (nested_small verdict_on verdict-right s bytes start len f u32)))
+      (subst InBits (sym (x verdict_on verdict_right).0)
+      (entries_bits lent (nested_of verdict_on s start len f) (λ l e. (places_rise verdict_on s start len f l e).1) (nested_small verdict_on verdict_right s bytes start len f u32)))
 
   -- so what a caller takes from the call's word is the answer that the definition allows
   pub bodies_told : (lent left : Both) (word : ℕ) → BodiesPacked s start len f lent left word → Nested s start len f lent left (unpacked_of word)

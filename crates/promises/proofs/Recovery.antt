@@ -162,7 +162,7 @@ module _ (s : List ℕ) (h : Fields) where
     runs_off w (i ∷ items) (v, (c, r)) = item_off (off w) v i items (goes_off (v, just i) (step_goes s h n w (v, just i) header c)) (runs_off v items r)
 
 -- with recovery and without it a chunk gives the same live records and refusals, in the same order
-pub recovery_only_adds : (s : List ℕ) (h : Fields) (n : ℕ) → fields_at s ≡ given h n → (with-recovery without : List Reply)
-    → Runs s (start_of true) with-recovery → Runs s (start_of false) without → without ≡ without_carved with-recovery
-recovery_only_adds s h n header with-recovery without x y =
-    runs_one s (start_of false) without (without_carved with-recovery) y (runs_off s h n header (start_of true) with-recovery x)
+pub recovery_only_adds : (s : List ℕ) (h : Fields) (n : ℕ) → fields_at s ≡ given h n → (with_recovery without : List Reply)
+    → Runs s (start_of true) with_recovery → Runs s (start_of false) without → without ≡ without_carved with_recovery
+recovery_only_adds s h n header with_recovery without x y =
+    runs_one s (start_of false) without (without_carved with_recovery) y (runs_off s h n header (start_of true) with_recovery x)

@@ -46,7 +46,7 @@ module _ (s : List ℕ) (inline : Bool) where
     pub says : row
         ≡ row_with r.body r.item (hung_at (text r.tokens r.owners r.root) r.item) r.token (content_told s value.code value.content)
 
-  -- a row that is its instance's own (`own-only`), and is made of a value where it is a substitution's in an instance's text
+  -- a row that is its instance's own (`own_only`), and is made of a value where it is a substitution's in an instance's text
   pub record ValueRow (bodies : List Span) (row : List ℕ) : Type 0 where
     pub of_own : OwnRow s inline bodies row
     pub of_value : (i : Instance) → of_own.of.root ≡ R.Instance i → of_own.of.token.kind ≡ substitution_kind → SaysValue bodies row of_own.of

@@ -1,4 +1,6 @@
-// The sheet of a stream by itself, called from C by the benchmark (compare/bench).
+// The sheet of a stream by itself, as a library. The crate sheet_call_c exports the call to C, for the benchmark (compare/bench).
+#![tactic(auto)]
+
 ghost use Rattle.std.specs.Prelude.{◌≡◌};
 ghost use Rattle.tokens.specs.Walk.{walk_of};
 ghost use Rattle.sheet.specs.Sheet.{sheet_answer, sheet_words};
@@ -9,8 +11,7 @@ use cursor::Counted;
 use tokens::Flags;
 
 // How many tokens the stream has, with their words in the sheet, or all ones where it is refused.
-#[unsafe(no_mangle)]
-pub extern "C" fn doortumble_bench_sheet(
+pub fn doortumble_bench_sheet(
     stream: &[u8],
     start: u32,
     length: u32,

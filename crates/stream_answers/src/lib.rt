@@ -1,6 +1,8 @@
 // The answers of the batch's modes that read a token stream: the walk (T), the single instance (S), the owner table (O), the sheet by itself
 // (C), sheet and owner table by one C call (B) and the moves of a kept sheet (K). Each function puts its lines into a lent buffer, behind what
 // is there.
+#![tactic(auto)]
+
 mod call;
 mod content;
 mod field;
@@ -21,7 +23,7 @@ use cursor::Counted;
 use tokens::{Ends, Flags, SingleInstance, Window};
 
 // What of a stream is asked for, and how it is read.
-#[derive(Drop)]
+#[derive(Clone, Copy)]
 pub struct Asked {
     pub start: u32,
     pub length: u32,

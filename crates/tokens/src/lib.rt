@@ -1,22 +1,27 @@
 // The token walk of a stream: one step, where a walk reads, the values of an instance, and the single instance. The Rust: binxml/tokens.rs.
 //
 // A step goes from a position to the next token and hands out where the walk reads on. Every call takes every stream and every number.
+#![tactic(auto)]
+
 mod plain;
-pub mod template;
-pub mod walking;
+mod template;
+mod walking;
 
 ghost use Rattle.std.specs.Prelude.{◌≡◌};
 ghost use Rattle.tokens.specs.Single.{single_answer, single_of, ends_answer, ends_of};
 ghost use Rattle.tokens.specs.Instance.{values_of, next_answer, next_of};
+ghost use Rattle.tokens.specs.Sight.{sight_answer, instance_there, sight_at};
+ghost use Rattle.tokens.specs.Pieces.{instance_answer, turn_answer, sight_of_head, sight_of_turn};
 ghost use Rattle.tokens.specs.Walk.{step_answer, step_at, window_answer, window_of};
 
 use cursor::{Cursor, Part, Refusal, View};
 use name::Name;
+use template::InstanceRead;
 use value::{Value, ValueRead};
 use walking::Turned;
 
 // How a stream is read: whether open tokens carry dependencies, and whether names stand inline.
-#[derive(Drop)]
+#[derive(Clone, Copy)]
 pub struct Flags {
     pub dependencies: bool,
     pub inline: bool,
@@ -24,7 +29,7 @@ pub struct Flags {
 
 // An instance: its numbers, where its GUID stands (no bytes where there is none), where its descriptors start and how many they are,
 // and where its values start.
-#[derive(Drop)]
+#[derive(Clone, Copy)]
 pub struct Instance {
     pub id: u32,
     pub offset: u32,
@@ -35,7 +40,7 @@ pub struct Instance {
 }
 
 // What a token holds, by its kind.
-#[derive(Drop)]
+#[derive(Clone, Copy)]
 pub enum Held {
     Nothing,
     Name(Name),
@@ -48,7 +53,7 @@ pub enum Held {
 // (dependency, char, substitution, else 0), its flag (dependency present, or optional), whether it announces attributes (an open byte 41),
 // its name's offset (0 where it has no name), and what it holds. (The place comes first, where the other answers of a step have a position
 // too: with a smaller field there each answer was taken apart into bytes and put together again.)
-#[derive(Drop)]
+#[derive(Clone, Copy)]
 pub struct Token {
     pub place: usize,
     pub len: usize,
@@ -60,7 +65,7 @@ pub struct Token {
     pub held: Held,
 }
 
-#[derive(Drop)]
+#[derive(Clone, Copy)]
 pub enum Stepped {
     Token(Token, Cursor),
     End(Cursor),
@@ -69,7 +74,7 @@ pub enum Stepped {
 
 // What one turn of a walk sees where the values of an instance are left to the caller: an instance's head, with its whole table, or what any
 // turn meets.
-#[derive(Drop)]
+#[derive(Clone, Copy)]
 pub enum Sight {
     Token(Token, Cursor),
     Instance(Instance, Cursor),
@@ -79,21 +84,21 @@ pub enum Sight {
 }
 
 // Where a walk reads: its first position, and the first at which no token begins.
-#[derive(Drop)]
+#[derive(Clone, Copy)]
 pub enum Window {
     From(usize, usize),
     Refused(Refusal),
 }
 
 // Where a walk over an instance's values stands: the next descriptor, how many are left, and the next value.
-#[derive(Drop)]
+#[derive(Clone, Copy)]
 pub struct Values {
     pub table: usize,
     pub left: u32,
     pub at: usize,
 }
 
-#[derive(Drop)]
+#[derive(Clone, Copy)]
 pub enum NextValue {
     // The value, its descriptor's size, and where the walk over the values goes on.
     Value(Value, u16, Values),
@@ -102,14 +107,14 @@ pub enum NextValue {
 }
 
 // Where the instance of a single instance's stream starts, after its token byte.
-#[derive(Drop)]
+#[derive(Clone, Copy)]
 pub enum SingleInstance {
     At(usize),
     Nothing,
 }
 
 // Whether a stream ends after what was read of it.
-#[derive(Drop)]
+#[derive(Clone, Copy)]
 pub enum Ends {
     Yes,
     No,
@@ -192,6 +197,45 @@ pub fn step(s: &[u8], at: usize, end: usize, flags: Flags) -> Stepped
             Turned::Over(c) => return Stepped::End(c),
             Turned::Refused(r) => return Stepped::Refused(r),
         }
+    }
+}
+
+// One turn of the walk, in which an instance's head and whole table are read and none of its values.
+pub fn look(s: &[u8], at: usize, end: usize, flags: Flags) -> Sight
+    ensures { sight_answer result ≡ sight_at s.now end flags at }
+{
+    if instance_there(s, at, end) {
+        return begun(template::head(Cursor { at: at + 1 }, s));
+    }
+    met(walking::turn(s, at, end, flags))
+}
+
+fn instance_there(s: &[u8], at: usize, end: usize) -> bool
+    ensures { result ≡ instance_there s.now end at }
+{
+    if end <= at {
+        return false;
+    }
+    cursor::u8_at(s, at) == 0x0C
+}
+
+fn begun(got: InstanceRead) -> Sight
+    ensures { sight_answer result ≡ sight_of_head (instance_answer got) }
+{
+    match got {
+        InstanceRead::Read(i, c) => Sight::Instance(i, c),
+        InstanceRead::Refused(r) => Sight::Refused(r),
+    }
+}
+
+fn met(got: Turned) -> Sight
+    ensures { sight_answer result ≡ sight_of_turn (turn_answer got) }
+{
+    match got {
+        Turned::Token(t, c) => Sight::Token(t, c),
+        Turned::Header(c) => Sight::Header(c),
+        Turned::Over(c) => Sight::Over(c),
+        Turned::Refused(r) => Sight::Refused(r),
     }
 }
 

@@ -11,7 +11,7 @@ use name::{Name, NameRead};
 use value::{Kind, ValueRead};
 
 // What a token is, but for where it stands.
-#[derive(Drop)]
+#[derive(Clone, Copy)]
 pub struct Gist {
     pub kind: u8,
     pub number: u16,
@@ -21,14 +21,14 @@ pub struct Gist {
     pub held: Held,
 }
 
-#[derive(Drop)]
+#[derive(Clone, Copy)]
 pub enum GistRead {
     Read(Gist, Cursor),
     Refused(Refusal),
 }
 
 // What is known of a token before its name: all but the name. (What is the same for every token of a byte is then a constant in the code.)
-#[derive(Drop)]
+#[derive(Clone, Copy)]
 pub struct Lead {
     pub kind: u8,
     pub number: u16,
@@ -37,7 +37,7 @@ pub struct Lead {
 }
 
 // Whether a name follows, and where.
-#[derive(Drop)]
+#[derive(Clone, Copy)]
 pub enum Front {
     Named(Lead, Cursor),
     Nameless,

@@ -12,7 +12,7 @@ use cursor::{Cursor, Moved, Part, ReadU8, ReadU16, ReadU32, Refusal, Taken};
 use value::ValueRead;
 
 // An instance but its values: the whole table is read before any of them.
-#[derive(Drop)]
+#[derive(Clone, Copy)]
 pub enum InstanceRead {
     Read(Instance, Cursor),
     Refused(Refusal),
@@ -39,7 +39,7 @@ fn after_head(i: Instance, c: Cursor, s: &[u8]) -> GistRead
 }
 
 // An instance's numbers, its definition where it stands in place, and the whole table.
-pub fn head(c: Cursor, s: &[u8]) -> InstanceRead
+pub(crate) fn head(c: Cursor, s: &[u8]) -> InstanceRead
     ensures { instance_answer result ≡ instance_head_at s.now c.at }
 {
     match c.u8(s) {

@@ -9,7 +9,7 @@ use crate::plain::{Front, Gist, GistRead};
 use crate::{Flags, Token, plain, template};
 use cursor::{Cursor, Moved, ReadU8, Refusal};
 
-#[derive(Drop)]
+#[derive(Clone, Copy)]
 pub enum Turned {
     Token(Token, Cursor),
     Header(Cursor),
@@ -17,7 +17,7 @@ pub enum Turned {
     Refused(Refusal),
 }
 
-pub fn turn(s: &[u8], at: usize, end: usize, flags: Flags) -> Turned
+pub(crate) fn turn(s: &[u8], at: usize, end: usize, flags: Flags) -> Turned
     ensures { turn_answer result ≡ turn_at s.now end flags at }
 {
     let c = Cursor { at: at };

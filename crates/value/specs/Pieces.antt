@@ -7,7 +7,7 @@ use Rattle.cursor.specs.Reads.{take_at, array_at}
 use Rattle.cursor.specs.Text.{prefixed_at}
 use Rattle.cursor.specs.Refusals.{past_end}
 use Rattle.value.specs.Kinds.{element_width_of}
-use Rattle.value.specs.Value.{value_of, as_bytes, as_number, as_text, moved, tells_length, told_in, takes_size, size_tIn, not_read, sized_in}
+use Rattle.value.specs.Value.{value_of, as_bytes, as_number, as_text, moved, tells_length, told_in, takes_size, size_t_in, not_read, sized_in}
 use Rattle.value.specs.declared.Content.{Content}
 use Rattle.value.specs.declared.Content.TheVariants.{Nothing, Text, Number, Bytes}
 use Rattle.value.specs.declared.contents.ContentRead.{ContentRead}
@@ -25,7 +25,7 @@ fixed_in t width = pick (eqb width 16) (take_at t 0 width then as_bytes) (take_a
 abbrev pub by_size_in : List ℕ → ℕ → ℕ → Answer Content
 by_size_in t code size =
     pick (takes_size code) (take_at t 0 size then as_bytes)
-    (pick (eqb code 0x10) (size_tIn t size)
+    (pick (eqb code 0x10) (size_t_in t size)
     (pick (ltb 0 (element_width_of code)) (array_at t 0 (element_width_of code) size then as_bytes)
     (refused (not_read code) 0)))
 

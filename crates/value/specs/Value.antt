@@ -60,8 +60,8 @@ abbrev pub takes_size : ℕ → Bool
 takes_size code = among code (0x02 ∷ 0x0E ∷ 0x21 ∷ 0x81 ∷ 0x82 ∷ [])
 
 -- "10 reads 4 or 8 if s is that, else refusal 8"
-abbrev pub size_tIn : List ℕ → ℕ → Answer Content
-size_tIn t size = pick (eqb size 4 || eqb size 8) (take_at t 0 size then as_number) (refused type_not_read 0)
+abbrev pub size_t_in : List ℕ → ℕ → Answer Content
+size_t_in t size = pick (eqb size 4 || eqb size 8) (take_at t 0 size then as_number) (refused type_not_read 0)
 
 -- "type known, not read here" (8) or "type code unknown" (7)
 abbrev pub not_read : ℕ → ℕ
@@ -75,7 +75,7 @@ sized_in t code size =
     pick (tells_length code) (told_in t code)
     (pick (eqb code 0x01) (counted_at t 0 (size / 2) then as_text)
     (pick (takes_size code) (take_at t 0 size then as_bytes)
-    (pick (eqb code 0x10) (size_tIn t size)
+    (pick (eqb code 0x10) (size_t_in t size)
     (pick (ltb 0 (element_width_of code)) (array_at t 0 (element_width_of code) size then as_bytes)
     (refused (not_read code) 0)))))
 

@@ -7,14 +7,14 @@ ghost use Rattle.cursor.specs.Answer.{◌then◌};
 ghost use Rattle.cursor.specs.Answers.{taken_answer, text_answer};
 ghost use Rattle.cursor.specs.Reads.{part_moved};
 ghost use Rattle.cursor.specs.Text.{view_moved};
-ghost use Rattle.value.specs.Value.{as_bytes, as_number, as_text, moved, tells_length, told_in, takes_size, size_tIn, not_read, sized_in};
+ghost use Rattle.value.specs.Value.{as_bytes, as_number, as_text, moved, tells_length, told_in, takes_size, size_t_in, not_read, sized_in};
 ghost use Rattle.value.specs.Pieces.{content_answer, fixed_in, by_size_in, Movable};
 
 use crate::{Content, Kind};
 use cursor::{Cursor, Part, Refusal, Taken, Text, View};
 
 // What was read of a value, before its size is looked at again.
-#[derive(Drop)]
+#[derive(Clone, Copy)]
 pub enum ContentRead {
     Read(Content, Cursor),
     Refused(Refusal),
@@ -184,7 +184,7 @@ fn by_size(rest: &[u8], start: usize, code: u8, size: usize) -> ContentRead
 
 fn size_t(rest: &[u8], start: usize, size: usize) -> ContentRead
     requires { start + length rest.now < 2 ^ 64 }
-    ensures { content_answer result ≡ moved start (size_tIn rest.now size) }
+    ensures { content_answer result ≡ moved start (size_t_in rest.now size) }
 {
     let c = Cursor { at: 0 };
     if size == 4 {

@@ -1,5 +1,7 @@
 // Values: the type set, the reads with and without a size, and what a number decodes to. The Rust: binxml/value_variant.rs and the loop
 // over values of binxml/tokens.rs; where the Rust differs from document 01's rules, the rules decide.
+#![tactic(auto)]
+
 mod contents;
 mod scalars;
 
@@ -19,7 +21,7 @@ use cursor::{Cursor, Part, ReadU8, Refusal, Text, View};
 const ARRAY_OF: u8 = Kind::STRING_ARRAY - Kind::STRING;
 
 // The type set: the codes by their names in MS-EVEN6.
-#[derive(Drop)]
+#[derive(Clone, Copy)]
 pub struct Kind;
 
 impl Kind {
@@ -213,7 +215,7 @@ impl Kind {
 }
 
 // What a value holds; the places are places of the stream.
-#[derive(Drop)]
+#[derive(Clone, Copy)]
 pub enum Content {
     // Of type 00.
     Nothing,
@@ -225,20 +227,20 @@ pub enum Content {
 }
 
 // A value: its type, where it starts in the stream, and what it holds.
-#[derive(Drop)]
+#[derive(Clone, Copy)]
 pub struct Value {
     pub code: u8,
     pub start: usize,
     pub content: Content,
 }
 
-#[derive(Drop)]
+#[derive(Clone, Copy)]
 pub enum ValueRead {
     Read(Value, Cursor),
     Refused(Refusal),
 }
 
-#[derive(Drop)]
+#[derive(Clone, Copy)]
 pub enum Scalar {
     Signed(i64),
     Unsigned(u64),
@@ -247,13 +249,13 @@ pub enum Scalar {
 }
 
 // A decoded number: its stored bits, and its value. The bits stand beside it, since a NaN has none of its own.
-#[derive(Drop)]
+#[derive(Clone, Copy)]
 pub struct Decoded {
     pub bits: u64,
     pub value: Scalar,
 }
 
-#[derive(Drop)]
+#[derive(Clone, Copy)]
 pub enum Decoding {
     Number(Decoded),
     // The type is no number's.

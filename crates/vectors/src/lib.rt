@@ -1,1 +1,2 @@
 // No code: what each call answers on a small input, in specs/.
+#![tactic(auto)]

@@ -1,0 +1,10 @@
+-- `after_hash` meets its contract: the count, and what comes after it. Assumes nothing.
+use Rattle.std.proofs.Common.{sym, ap, ◌∙◌, rules}
+use Rattle.cursor.specs.Answers.{u16_answer}
+use Rattle.name.proofs.inline.after_hash.Goals as goal
+
+pub returns-in-Value : goal.returns-in-Value
+returns-in-Value c = simp (sym c.u16.ensures ∙ ap u16_answer c.in-Value.is, c.after_count.ensures)
+
+pub returns-in-Refused : goal.returns-in-Refused
+returns-in-Refused c = simp (sym c.u16.ensures ∙ ap u16_answer c.in-Refused.is)

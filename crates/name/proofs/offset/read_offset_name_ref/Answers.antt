@@ -1,0 +1,10 @@
+-- `read_offset_name_ref` meets its contract: the offset, and what comes after it. Assumes nothing.
+use Rattle.std.proofs.Common.{sym, ap, ◌∙◌, rules}
+use Rattle.cursor.specs.Answers.{u32_answer}
+use Rattle.name.proofs.offset.read_offset_name_ref.Goals as goal
+
+pub returns-in-Value : goal.returns-in-Value
+returns-in-Value c = simp (sym c.u32.ensures ∙ ap u32_answer c.in-Value.is, c.after_offset.ensures)
+
+pub returns-in-Refused : goal.returns-in-Refused
+returns-in-Refused c = simp (sym c.u32.ensures ∙ ap u32_answer c.in-Refused.is)

@@ -1,0 +1,17 @@
+-- `body_call` meets its contract. Assumes nothing.
+use borrow.Author.Rules.{rules}
+use mathlib.Core.Path.{ap}
+use Rattle.body.specs.Verdict.{both}
+use Rattle.stream_answers.specs.Modes.{asked_walk, room_in}
+use Rattle.stream_answers.specs.Body.{table_room_in, body_stream, BodyCalled}
+use Rattle.stream_answers.proofs.Parts.{some_as}
+use Rattle.stream_answers.proofs.Lending.{take_replicate}
+use Rattle.stream_answers.proofs.body_call.Goals as goal
+
+pub returns : goal.returns
+returns c =
+    let a = c.args in
+    let b = a.bytes.now in
+    let p = take_replicate 18446744073709551615 (room_in b) 65536 in
+    let q = take_replicate 4294967295 (table_room_in b) 65536 in
+    some_as (λ i. BodyCalled (asked_walk (body_stream b) a.asked) (both (p i) (q i))) c.body_of.ensures

@@ -1,0 +1,14 @@
+-- `start_line` meets its contract. Assumes nothing.
+use borrow.Author.Rules.{rules}
+use mathlib.Core.Path.{sym, ap}
+use Rattle.print.proofs.Putting.{put_as}
+use Rattle.tokens.specs.Single.{single_answer}
+use Rattle.stream_answers.specs.Modes.{single_text}
+use Rattle.stream_answers.proofs.start_line.Goals as goal
+
+pub returns-in-At : goal.returns-in-At
+returns-in-At c =
+    put_as (ap (λ x. single_text (single_answer x)) (sym c.in-At.is)) c.line.ensures
+
+pub returns-in-Nothing : goal.returns-in-Nothing
+returns-in-Nothing c = put_as (ap (λ x. single_text (single_answer x)) (sym c.in-Nothing.is)) c.text.ensures

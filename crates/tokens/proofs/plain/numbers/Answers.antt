@@ -1,0 +1,11 @@
+-- `numbers` meets its contract: the dependency, and what comes after it. Assumes nothing.
+use mathlib.Core.Path.{sym, ap, ◌∙◌}
+use Rattle.cursor.specs.Answers.{u16_answer}
+use borrow.Author.Rules.{rules}
+use Rattle.tokens.proofs.plain.numbers.Goals as goal
+
+pub returns-in-Value : goal.returns-in-Value
+returns-in-Value c = simp (sym c.dependency.ensures ∙ ap u16_answer c.in-Value.is, c.after_dependency.ensures)
+
+pub returns-in-Refused : goal.returns-in-Refused
+returns-in-Refused c = simp (sym c.dependency.ensures ∙ ap u16_answer c.in-Refused.is)

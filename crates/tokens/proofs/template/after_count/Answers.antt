@@ -1,0 +1,11 @@
+-- `after_count` meets its contract: the table, or its refusal. Assumes nothing.
+use mathlib.Core.Path.{sym, ap, ◌∙◌}
+use Rattle.cursor.specs.Answers.{moved_answer}
+use borrow.Author.Rules.{rules}
+use Rattle.tokens.proofs.template.after_count.Goals as goal
+
+pub returns-in-To : goal.returns-in-To
+returns-in-To c = simp (sym c.table.ensures ∙ ap moved_answer c.in-To.is)
+
+pub returns-in-Refused : goal.returns-in-Refused
+returns-in-Refused c = simp (sym c.table.ensures ∙ ap moved_answer c.in-Refused.is)

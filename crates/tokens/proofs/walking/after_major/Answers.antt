@@ -1,0 +1,11 @@
+-- `after_major` meets its contract: the minor version, and what comes after it. Assumes nothing.
+use mathlib.Core.Path.{sym, ap, ◌∙◌}
+use Rattle.cursor.specs.Answers.{u8_answer}
+use borrow.Author.Rules.{rules}
+use Rattle.tokens.proofs.walking.after_major.Goals as goal
+
+pub returns-in-Value : goal.returns-in-Value
+returns-in-Value c = simp (sym c.u8.ensures ∙ ap u8_answer c.in-Value.is, c.after_minor.ensures)
+
+pub returns-in-Refused : goal.returns-in-Refused
+returns-in-Refused c = simp (sym c.u8.ensures ∙ ap u8_answer c.in-Refused.is)
