@@ -6,6 +6,7 @@
 use cursor::Part;
 use std::io;
 use std::io::Read;
+use std::ops::ControlFlow;
 use stream_answers::Asked;
 use tokens::Flags;
 
@@ -32,12 +33,8 @@ struct Case {
     data: usize,
 }
 
-// What a turn of the run leaves: how full the output is, and whether the run is over.
-#[derive(Clone, Copy)]
-enum Turn {
-    GoesOn(usize),
-    Over(usize),
-}
+// How full the output is after a turn, and whether the run is over.
+type Turn = ControlFlow<usize, usize>;
 
 fn main(rt: HostRuntime) -> io::Result<()> {
     let mut bytes = [0u8; MOST_DATA];
@@ -55,8 +52,8 @@ fn run(
     let mut at: usize = 0;
     for _ in 0..u64::MAX {
         match one_case(rt, reader, out, at, bytes)? {
-            Turn::GoesOn(next) => at = next,
-            Turn::Over(end) => return write(rt, out, end),
+            ControlFlow::Continue(next) => at = next,
+            ControlFlow::Break(end) => return write(rt, out, end),
         }
     }
     write(rt, out, at)
@@ -79,7 +76,7 @@ fn one_case(
     let mut head = [0u8; HEAD];
     let n = input::read_full(reader, &mut head)?;
     if n == 0 {
-        return Ok(Turn::Over(at));
+        return Ok(ControlFlow::Break(at));
     }
     if n < HEAD {
         return Ok(bad(out, at));
@@ -129,9 +126,9 @@ fn kept(rt: &impl Print, out: &mut [u8], at: usize) -> io::Result<Turn> {
     }
     if FULL <= at {
         write(rt, out, at)?;
-        return Ok(Turn::GoesOn(0));
+        return Ok(ControlFlow::Continue(0));
     }
-    Ok(Turn::GoesOn(at))
+    Ok(ControlFlow::Continue(at))
 }
 
 // Whether there is room for n bytes, and the input has them.
@@ -144,28 +141,19 @@ fn is_read(reader: &mut impl Read, n: usize, bytes: &mut [u8]) -> io::Result<boo
 }
 
 fn bad(out: &mut [u8], at: usize) -> Turn {
-    Turn::Over(print::text(out, at, b"bad case\n"))
+    ControlFlow::Break(print::text(out, at, b"bad case\n"))
 }
 
-// The least data that a mode needs; of a mode that there is not, more than a case may have.
+// (A mode is a byte of the case, so it is matched and no closure.) The least data that a mode needs; of a mode that there is not, more than a case may have.
 fn least_data(mode: u8) -> usize {
     match mode {
-        b'H' => 0,
-        b'D' => 0,
-        b'R' => 0,
-        b'W' => 0,
+        b'H' | b'D' | b'R' | b'W' | b'F' | b'T' | b'S' | b'O' => 0,
         b'P' => chunk_answers::STATE,
-        b'F' => 0,
-        b'T' => 0,
-        b'S' => 0,
-        b'O' => 0,
         b'C' => stream_answers::ROOM,
-        b'B' => stream_answers::ROOMS,
-        b'N' => stream_answers::ROOMS,
+        b'B' | b'N' => stream_answers::ROOMS,
         b'K' => stream_answers::KEPT,
         b'M' => merge_answers::FRONT,
-        b'E' => event_answers::ROOM,
-        b'J' => event_answers::ROOM,
+        b'E' | b'J' => event_answers::ROOM,
         _ => MOST_DATA + 1,
     }
 }

@@ -9,7 +9,7 @@ use borrow.Author.Tests.{le-leb, lt-leb}
 use lib.ListN.{length, take, length-take}
 use lib.Seq.{sets, length-take-le}
 use Rattle.cursor.specs.Answer.{Result, gives, refuses}
-use Rattle.cursor.specs.Lent.{laid, lent_left}
+use Rattle.cursor.specs.Lent.{laid}
 use Rattle.cursor.specs.Refusals.{no_room_number}
 use Rattle.tokens.specs.Walk.{Walked, ok, bad, counted_of, walk_at}
 use Rattle.tokens.specs.declared.Flags.{Flags}
@@ -42,10 +42,6 @@ walk_refused (bad m q) lent k p e = subst (Answered lent lent (bad m q)) e (walk
 -- the front of a buffer is no longer than the buffer
 pub front_short : (n m : ℕ) (marks : List ℕ) → length marks ≤ m → length (take n marks) ≤ m
 front_short n m marks h = omega (arith, length-take n marks)
-
--- words that have room are laid
-pub lay_left : (words lent left : List ℕ) → length words ≤ length lent → left ≡ lent_left (gives words) lent → left ≡ laid words lent
-lay_left words lent left h e = let a = le-leb (length words) (length lent) h in e ∙ (rw a)
 
 -- the rooms, the sheet's first: both have it, the sheet has none, the table has none
 module _ (words lent : Both) where

@@ -1,4 +1,7 @@
 -- The verdict on marks as the reader comes to it. Assumes nothing.
+use Rattle.std.specs.Prelude as Std
+use Rattle.std.specs.Prelude.{Ok, Err}
+use Rattle.cursor.specs.declared.Refusal.{Refusal}
 use mathlib.Core.Path.{◌≡◌, refl, sym, ap, ◌∙◌}
 use mathlib.Core.Bool.{true}
 use mathlib.Core.List.{List}
@@ -11,8 +14,6 @@ use Rattle.cursor.specs.Refusals.{wrong_length}
 use Rattle.body.specs.Marks.{count_of, MarksJudged}
 use Rattle.body.specs.Reader.{Out, accepted, refused, begin, outcome, words_from, walk, whole_of, verdict_of, verdict_on}
 use Rattle.body.specs.Verdict.{deepest}
-use Rattle.body.specs.declared.reader.Read.{Read}
-use Rattle.body.specs.declared.reader.Read.TheVariants as R
 use Rattle.body.proofs.Agree.{words_length}
 use Rattle.body.proofs.Answers.{verdict_right}
 use Rattle.body.proofs.Filling.{whole_accepted, whole_refused, whole_table}
@@ -21,7 +22,7 @@ pub marks_long : (t lent : List ℕ) → 65536 < length t → MarksJudged t lent
 marks_long t lent h =
     record { verdict = verdict_on t; judged = verdict_right t; answer = rw (lt-leb (length t) 65536 h); noted = rw (lt-leb (length t) 65536 h) }
 
-module _ (t lent left : List ℕ) (h : length t ≤ 65536) (r : Read) (e : whole_of r left ≡ walk t begin 0 lent) where
+module _ (t lent left : List ℕ) (h : length t ≤ 65536) (r : Std.Result ℕ Refusal) (e : whole_of r left ≡ walk t begin 0 lent) where
   made : (o : Result ℕ) → o ≡ count_of (verdict_on t) → MarksJudged t lent left o
   made o q =
       record {
@@ -31,13 +32,13 @@ module _ (t lent left : List ℕ) (h : length t ≤ 65536) (r : Read) (e : whole
         noted = whole_table t r left lent e ∙ rw (le-leb (length t) 65536 h);
       }
 
-  pub marks_accepted : (j : ℕ) → r ≡ R.Next j → MarksJudged t lent left (gives (length t))
+  pub marks_accepted : (j : ℕ) → r ≡ Ok j → MarksJudged t lent left (gives (length t))
   marks_accepted j q =
       let a = whole_accepted t r left lent e j q in
       made (gives (length t))
       (ap gives (sym (words_length true deepest t begin 0 a)) ∙ ap (λ (o : Out). count_of (verdict_of o (words_from true deepest begin 0 t))) (sym a))
 
-  pub marks_refused : (p k : ℕ) → r ≡ R.Refused p k → MarksJudged t lent left (refuses k p)
+  pub marks_refused : (p k : ℕ) → r ≡ Err (record { number = k; place = p }) → MarksJudged t lent left (refuses k p)
   marks_refused p k q =
       let a = whole_refused t r left lent e p k q in
       made (refuses k p) (ap (λ (o : Out). count_of (verdict_of o (words_from true deepest begin 0 t))) (sym a))

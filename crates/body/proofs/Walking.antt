@@ -1,4 +1,6 @@
 -- The walk over marks, token by token: a law for each way on that the readers take. Assumes nothing.
+use Rattle.std.specs.Prelude.{Ok, Err, Result}
+use Rattle.cursor.specs.declared.Refusal.{Refusal}
 use mathlib.Core.Path.{◌≡◌, refl, sym, ap, subst, ◌∙◌}
 use mathlib.Core.Bool.{Bool, true, false}
 use mathlib.Core.List.{List, [], ◌∷◌}
@@ -6,8 +8,8 @@ use Prim.Native.Nat.{ℕ, suc, ◌+◌, ◌≤◌, ◌<◌}
 use native.Mathlib.Omega.{arith}
 use native.Mathlib.Numerals.{add-one}
 use native.Mathlib.Decide.{dec_le}
-use borrow.Author.Tests.{lt-ltb, le-ltb, ltb-true, ltb-false, eqb-true, eq-eqb, ne_eqb}
-use lib.Dec.{eqb, ltb}
+use borrow.Author.Tests.{lt-ltb, le-ltb, eqb-true, eq-eqb, ne_eqb}
+use lib.Dec.{eqb}
 use lib.ListN.{length, get_or, set, drop, drop_of_length-le}
 use lib.Seq.{sets, drop-cons}
 use Rattle.cursor.specs.Answer.{pick}
@@ -16,11 +18,9 @@ use Rattle.cursor.proofs.Choice.{either}
 use Rattle.tokens.specs.Token.{instance_kind, open_kind, close_start_kind, close_empty_kind, close_element_kind, attribute_kind, pi_target_kind, pi_data_kind, value_kind, entity_ref_kind, char_ref_kind, substitution_kind}
 use Rattle.body.specs.Grammar.{announcing_open, announces, kind_of}
 use Rattle.body.specs.Verdict.{deepest}
-use Rattle.body.specs.Reader.{State, begin, root, tag, inside, done, target, Out, accepted, refused, Step, move, stop, closes, asking, is_open, is_item, is_leaf, lacking_of, opening, turn, step, ended, outcome, words_from, walk, further, TagFurther, resume, tag_resume, on_step, opened, at_end, whole_of}
-use Rattle.body.specs.declared.reader.Read.{Read}
-use Rattle.body.specs.declared.reader.Read.TheVariants as R
-use Rattle.body.specs.declared.reader.Tagged.{Tagged}
-use Rattle.body.specs.declared.reader.Tagged.TheVariants as T
+use Rattle.body.specs.Reader.{State, begin, root, tag, inside, done, target, Out, accepted, refused, Step, move, stop, closes, asking, is_open, is_item, is_leaf, lacking_of, opening, turn, step, ended, outcome, words_from, walk, further, TagFurther, resume, tag_resume, on_step, opened}
+use Rattle.body.specs.declared.reader.Tag.{Tag}
+use Rattle.body.specs.declared.reader.Tag.TheVariants as T
 
 -- what a step's answer makes of the rest
 on_step_lem : (t : List ℕ) (n : ℕ) (table : List ℕ) (x : Step)
@@ -231,9 +231,9 @@ module _ (t : List ℕ) (n : ℕ) (table : List ℕ) where
         sym (walk_step (inside (w ∷ st)) h ∙ ap (λ (k : ℕ). on_step t n table (turn true deepest (inside (w ∷ st)) n (announces (get_or t n 0)) k)) (eqb-true (kind_of (get_or t n 0)) open_kind e))
 
     -- an element's answer goes on from its open token
-    pub inside_child : (w : ℕ) (st left : List ℕ) (r r' : Read) → is_open (get_or t n 0) ≡ true → resume t (inside (w ∷ st)) r left ≡ opened t n w (w ∷ st) table → r ≡ r'
+    pub inside_child : (w : ℕ) (st left : List ℕ) (r r' : Result ℕ Refusal) → is_open (get_or t n 0) ≡ true → resume t (inside (w ∷ st)) r left ≡ opened t n w (w ∷ st) table → r ≡ r'
         → resume t (inside (w ∷ st)) r' left ≡ walk t (inside (w ∷ st)) n table
-    inside_child w st left r r' k g e = subst (λ (r : Read). resume t (inside (w ∷ st)) r left ≡ walk t (inside (w ∷ st)) n table) e (g ∙ inside_open w st k)
+    inside_child w st left r r' k g e = subst (λ (r : Result ℕ Refusal). resume t (inside (w ∷ st)) r left ≡ walk t (inside (w ∷ st)) n table) e (g ∙ inside_open w st k)
 
     pub inside_leaf : (w : ℕ) (st left : List ℕ) → is_leaf (get_or t n 0) ≡ true → left ≡ set table n w
         → walk t (inside (w ∷ st)) (n + 1) left ≡ walk t (inside (w ∷ st)) n table
@@ -279,10 +279,10 @@ module _ (t : List ℕ) (n : ℕ) (table : List ℕ) where
     root_open e = sym (walk_step root h ∙ ap (λ (k : ℕ). on_step t n table (turn true deepest root n (announces (get_or t n 0)) k)) (eqb-true (kind_of (get_or t n 0)) open_kind e))
 
     -- the root's answer, taken apart
-    pub root_child : (w : ℕ) (left : List ℕ) (r r' : Read) → is_open (get_or t n 0) ≡ true → w ≡ 0 → resume t (inside []) r left ≡ opened t n w [] table → r ≡ r'
+    pub root_child : (w : ℕ) (left : List ℕ) (r r' : Result ℕ Refusal) → is_open (get_or t n 0) ≡ true → w ≡ 0 → resume t (inside []) r left ≡ opened t n w [] table → r ≡ r'
         → resume t (inside []) r' left ≡ walk t root n table
     root_child w left r r' k z g e =
-        subst (λ (r : Read). resume t (inside []) r left ≡ walk t root n table) e
+        subst (λ (r : Result ℕ Refusal). resume t (inside []) r left ≡ walk t root n table) e
         (g ∙ ap (λ (x : ℕ). opened t n x [] table) z ∙ root_open k)
 
     pub root_instance : (left : List ℕ) → get_or t n 0 ≡ instance_kind → left ≡ set table n 0 → walk t (inside []) (n + 1) left ≡ walk t root n table
@@ -308,9 +308,9 @@ module _ (t : List ℕ) (n : ℕ) (table : List ℕ) where
       ∙ rw (lt-ltb (length st) deepest h)
 
   -- an open tag's answer goes on from the open token
-  pub opened_tag : (w : ℕ) (st mid left : List ℕ) (r r' : Tagged) → length st < deepest → mid ≡ set table n w
+  pub opened_tag : (w : ℕ) (st mid left : List ℕ) (r r' : Result Tag Refusal) → length st < deepest → mid ≡ set table n w
       → tag_resume t (n + 1) st r left ≡ walk t (tag (announces (get_or t n 0)) 0 (n + 1) st) (n + 1) mid → r ≡ r' → tag_resume t (n + 1) st r' left ≡ opened t n w st table
-  opened_tag w st mid left r r' h l g e = subst (λ (r : Tagged). tag_resume t (n + 1) st r left ≡ opened t n w st table) e (g ∙ opened_on w st mid h l)
+  opened_tag w st mid left r r' h l g e = subst (λ (r : Result Tag Refusal). tag_resume t (n + 1) st r left ≡ opened t n w st table) e (g ∙ opened_on w st mid h l)
 
   pub opened_deep : (w : ℕ) (st : List ℕ) → deepest ≤ length st → (refused too_deep_number n, table) ≡ opened t n w st table
   unfolding opening
@@ -321,11 +321,11 @@ module _ (t : List ℕ) (n : ℕ) (table : List ℕ) where
   unfolding ended
   over_ended h = walk_ended (inside []) h
 
-  done_more : n < length t → (refused no_body_number n, table) ≡ walk t done n table
+  pub done_more : n < length t → (refused no_body_number n, table) ≡ walk t done n table
   unfolding turn
   done_more h = walk_stop done (refused no_body_number n) h refl
 
-  done_ended : length t ≤ n → (accepted, table) ≡ walk t done n table
+  pub done_ended : length t ≤ n → (accepted, table) ≡ walk t done n table
   unfolding ended
   done_ended h = walk_ended done h
 
@@ -350,21 +350,13 @@ pub follows : (n : ℕ) → step true deepest (inside []) n pi_target_kind ≡ m
 unfolding turn kind_of
 follows n = refl
 
--- nothing may follow a closing pair
-pub at_end_lem : (t left : List ℕ) (r : Read) → whole_of (at_end t r) left ≡ resume t done r left
-at_end_lem t left (R.Next j) =
-    either (λ (r : Read). whole_of r left ≡ walk t done j left) (ltb j (length t)) _ _
-    (λ e. done_more t j left (ltb-true j (length t) e))
-    (λ e. done_ended t j left (ltb-false j (length t) e))
-at_end_lem t left (R.Refused p k) = refl
-
 -- a leaf's answer, taken apart
-pub resumed : (t left : List ℕ) (x : Out × List ℕ) (s : State) (r r' : Read) → resume t s r left ≡ x → r ≡ r' → resume t s r' left ≡ x
-resumed t left x s r r' h e = subst (λ (r : Read). resume t s r left ≡ x) e h
+pub resumed : (t left : List ℕ) (x : Out × List ℕ) (s : State) (r r' : Result ℕ Refusal) → resume t s r left ≡ x → r ≡ r' → resume t s r' left ≡ x
+resumed t left x s r r' h e = subst (λ (r : Result ℕ Refusal). resume t s r left ≡ x) e h
 
 -- an open tag's answer, taken apart
-pub tag_resumed : (t left : List ℕ) (x : Out × List ℕ) (me : ℕ) (st : List ℕ) (r r' : Tagged) → tag_resume t me st r left ≡ x → r ≡ r' → tag_resume t me st r' left ≡ x
-tag_resumed t left x me st r r' h e = subst (λ (r : Tagged). tag_resume t me st r left ≡ x) e h
+pub tag_resumed : (t left : List ℕ) (x : Out × List ℕ) (me : ℕ) (st : List ℕ) (r r' : Result Tag Refusal) → tag_resume t me st r left ≡ x → r ≡ r' → tag_resume t me st r' left ≡ x
+tag_resumed t left x me st r r' h e = subst (λ (r : Result Tag Refusal). tag_resume t me st r left ≡ x) e h
 
 -- what stands there is an open token, and is looked at: it is told so
 pub open_there : {A : Type 0} (t : List ℕ) (n at : ℕ) → n ≡ at → is_open (get_or t at 0) ≡ true → is_open (get_or t n 0) ≡ false → A
@@ -375,18 +367,18 @@ pub from_first : (t : List ℕ) (n at : ℕ) (table table₀ : List ℕ) → n �
 from_first t n at table table₀ e l = ap (λ (i : ℕ). walk t root i table) e ∙ ap (walk t root at) l
 
 module _ (t : List ℕ) (at : ℕ) where
-  pub further_is : (r r' : Read) → further t at r → r ≡ r' → further t at r'
+  pub further_is : (r r' : Result ℕ Refusal) → further t at r → r ≡ r' → further t at r'
   further_is r r' h e = subst (further t at) e h
 
-  pub tag_further_is : (r r' : Tagged) → TagFurther t at r → r ≡ r' → TagFurther t at r'
+  pub tag_further_is : (r r' : Result Tag Refusal) → TagFurther t at r → r ≡ r' → TagFurther t at r'
   tag_further_is r r' h e = subst (TagFurther t at) e h
 
   -- what is further than a later token is further than an earlier one
-  pub later : (i : ℕ) (r : Read) → at ≤ i → further t i r → further t at r
-  later i (R.Next j) l h = (omega (arith, h.0), h.1)
-  later i (R.Refused p k) l h = h
+  pub later : (i : ℕ) (r : Result ℕ Refusal) → at ≤ i → further t i r → further t at r
+  later i (Ok j) l h = (omega (arith, h.0), h.1)
+  later i (Err r) l h = h
 
-  pub tag_later : (i : ℕ) (r : Tagged) → at ≤ i → TagFurther t i r → TagFurther t at r
-  tag_later i (T.Empty j) l h = (omega (arith, h.0), h.1)
-  tag_later i (T.Full j) l h = (omega (arith, h.0), h.1)
-  tag_later i (T.Refused p k) l h = h
+  pub tag_later : (i : ℕ) (r : Result Tag Refusal) → at ≤ i → TagFurther t i r → TagFurther t at r
+  tag_later i (Ok (T.Empty j)) l h = (omega (arith, h.0), h.1)
+  tag_later i (Ok (T.Full j)) l h = (omega (arith, h.0), h.1)
+  tag_later i (Err r) l h = h

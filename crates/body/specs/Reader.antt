@@ -1,19 +1,19 @@
 -- The reader as a function on the marks of tokens: what the private functions cite. What it is worth is shown against the grammar
 -- (proofs/Agree.antt, proofs/Refusing.antt); the public call's contract speaks of the grammar alone.
-use Rattle.std.specs.Prelude.{◌≡◌, Bool, true, false, ◌||◌, List, [], ◌∷◌, ℕ, suc, ◌+◌, ◌*◌, ◌≤◌, ◌<◌, eqb, ltb, length, get_or, take, drop, set}
+use Rattle.std.specs.Prelude as Std
+use Rattle.std.specs.Prelude.{Ok, Err, ◌≡◌, Bool, true, false, ◌||◌, List, [], ◌∷◌, ℕ, suc, ◌+◌, ◌≤◌, ◌<◌, eqb, ltb, length, get_or, drop, set}
 use Rattle.std.proofs.lemmas.List.Edits.{sets}
 use Rattle.cursor.specs.Answer.{Result, gives, refuses, pick}
+use Rattle.cursor.specs.declared.Refusal.{Refusal}
 use Rattle.cursor.specs.Refusals.{no_body_number, too_deep_number, unfinished, disagree}
 use Rattle.tokens.specs.Token.{instance_kind, open_kind, close_start_kind, close_empty_kind, close_element_kind, value_kind, attribute_kind, entity_ref_kind, pi_target_kind, pi_data_kind, cdata_kind, char_ref_kind, substitution_kind}
 use Rattle.tokens.specs.Walk.{walk_at, counted_of}
 use Rattle.tokens.specs.declared.Flags.{Flags}
-use Rattle.sheet.specs.Sheet.{words_per_token, marks_of, read_at}
+use Rattle.sheet.specs.Sheet.{marks_of, read_at}
 use Rattle.body.specs.Grammar.{Rule, announces, kind_of}
 use Rattle.body.specs.Verdict.{deepest}
-use Rattle.body.specs.declared.reader.Read.{Read}
-use Rattle.body.specs.declared.reader.Read.TheVariants as R
-use Rattle.body.specs.declared.reader.Tagged.{Tagged}
-use Rattle.body.specs.declared.reader.Tagged.TheVariants as T
+use Rattle.body.specs.declared.reader.Tag.{Tag}
+use Rattle.body.specs.declared.reader.Tag.TheVariants as T
 
 -- Where the reader stands. A stack has the word of each element that is open, the innermost first.
 -- begin: before the first token. root: after a leading pair. tag: in an open tag, with whether it announces attributes, the word of its last
@@ -129,25 +129,29 @@ words_from strict limit s n (k ∷ ks) =
 unfoldable pub walk : List ℕ → State → ℕ → List ℕ → Out × List ℕ
 walk t s n table = (outcome true deepest s n (drop n t), sets table n (words_from true deepest s n (drop n t)))
 
--- a reader that goes on has read a token at least, and stays within the tokens
-abbrev pub further : List ℕ → ℕ → Read → Type 0
-further t at (R.Next j) = (at < j) × (j ≤ length t)
-further t at (R.Refused p k) = Unit {0}
+-- a token of a stream's stands there
+abbrev pub TokenAt : List ℕ → ℕ → Type 0
+TokenAt t at = (at < length t) × (length t ≤ 65536)
 
-abbrev pub TagFurther : List ℕ → ℕ → Tagged → Type 0
-TagFurther t at (T.Empty j) = (at < j) × (j ≤ length t)
-TagFurther t at (T.Full j) = (at < j) × (j ≤ length t)
-TagFurther t at (T.Refused p k) = Unit {0}
+-- a reader that goes on has read a token at least, and stays within the tokens
+abbrev pub further : List ℕ → ℕ → Std.Result ℕ Refusal → Type 0
+further t at (Ok j) = (at < j) × (j ≤ length t)
+further t at (Err r) = Unit {0}
+
+abbrev pub TagFurther : List ℕ → ℕ → Std.Result Tag Refusal → Type 0
+TagFurther t at (Ok (T.Empty j)) = (at < j) × (j ≤ length t)
+TagFurther t at (Ok (T.Full j)) = (at < j) × (j ≤ length t)
+TagFurther t at (Err r) = Unit {0}
 
 -- the whole answer, where a reader's answer leaves the state s behind it
-abbrev pub resume : List ℕ → State → Read → List ℕ → Out × List ℕ
-resume t s (R.Next j) table = walk t s j table
-resume t s (R.Refused p k) table = (refused k p, table)
+abbrev pub resume : List ℕ → State → Std.Result ℕ Refusal → List ℕ → Out × List ℕ
+resume t s (Ok j) table = walk t s j table
+resume t s (Err r) table = (refused r.number r.place, table)
 
-abbrev pub tag_resume : List ℕ → ℕ → List ℕ → Tagged → List ℕ → Out × List ℕ
-tag_resume t me st (T.Empty j) table = walk t (inside st) j table
-tag_resume t me st (T.Full j) table = walk t (inside (me ∷ st)) j table
-tag_resume t me st (T.Refused p k) table = (refused k p, table)
+abbrev pub tag_resume : List ℕ → ℕ → List ℕ → Std.Result Tag Refusal → List ℕ → Out × List ℕ
+tag_resume t me st (Ok (T.Empty j)) table = walk t (inside st) j table
+tag_resume t me st (Ok (T.Full j)) table = walk t (inside (me ∷ st)) j table
+tag_resume t me st (Err r) table = (refused r.number r.place, table)
 
 -- the whole answer from an open token at `at` on
 abbrev pub on_step : List ℕ → ℕ → List ℕ → Step → Out × List ℕ
@@ -158,35 +162,35 @@ abbrev pub opened : List ℕ → ℕ → ℕ → List ℕ → List ℕ → Out �
 opened t at w st table = on_step t at table (opening deepest (announces (get_or t at 0)) w st at)
 
 -- A reader's answer and table are those of the whole, whatever elements are open above it: the stack `st` has their words.
-abbrev pub ElementRead : List ℕ → ℕ → ℕ → ℕ → List ℕ → Read → List ℕ → Type 0
+abbrev pub ElementRead : List ℕ → ℕ → ℕ → ℕ → List ℕ → Std.Result ℕ Refusal → List ℕ → Type 0
 ElementRead t at above w table r left = (st : List ℕ) → length st ≡ above → resume t (inside st) r left ≡ opened t at w st table
 
 -- Content is that of the element of a level, the innermost of so many; at level 0 there is the root alone, whose open token comes first.
 abbrev pub Placed : List ℕ → ℕ → ℕ → ℕ → Type 0
 Placed t at level me = level ≡ 0 → (at < length t) × (is_open (get_or t at 0) ≡ true) × (me ≡ 0)
 
-abbrev pub ContentRead : List ℕ → ℕ → ℕ → ℕ → List ℕ → Read → List ℕ → Type 0
+abbrev pub ContentRead : List ℕ → ℕ → ℕ → ℕ → List ℕ → Std.Result ℕ Refusal → List ℕ → Type 0
 ContentRead t at level me table r left =
     (level ≡ 0 → resume t (inside []) r left ≡ walk t root at table)
     × ((st : List ℕ) → suc (length st) ≡ level → resume t (inside st) r left ≡ walk t (inside (me ∷ st)) at table)
 
-abbrev pub LeafRead : List ℕ → ℕ → ℕ → List ℕ → Read → List ℕ → Type 0
+abbrev pub LeafRead : List ℕ → ℕ → ℕ → List ℕ → Std.Result ℕ Refusal → List ℕ → Type 0
 LeafRead t at me table r left = (st : List ℕ) → resume t (inside (me ∷ st)) r left ≡ walk t (inside (me ∷ st)) at table
 
-abbrev pub TagRead : Bool → List ℕ → ℕ → ℕ → ℕ → List ℕ → Tagged → List ℕ → Type 0
+abbrev pub TagRead : Bool → List ℕ → ℕ → ℕ → ℕ → List ℕ → Std.Result Tag Refusal → List ℕ → Type 0
 TagRead announced t at last me table r left = (st : List ℕ) → tag_resume t me st r left ≡ walk t (tag announced last me st) at table
 
 -- leaves in content, none or more, and the close token, if it follows: then the element is over
-abbrev pub LeavesRead : List ℕ → ℕ → ℕ → List ℕ → Tagged → List ℕ → Type 0
+abbrev pub LeavesRead : List ℕ → ℕ → ℕ → List ℕ → Std.Result Tag Refusal → List ℕ → Type 0
 LeavesRead t at me table r left =
     ((before : ℕ) → before < at → TagFurther t before r) × ((st : List ℕ) → tag_resume t me st r left ≡ walk t (inside (me ∷ st)) at table)
 
 -- after an open token at `at`
-abbrev pub OpenRead : List ℕ → ℕ → ℕ → List ℕ → Tagged → List ℕ → Type 0
+abbrev pub OpenRead : List ℕ → ℕ → ℕ → List ℕ → Std.Result Tag Refusal → List ℕ → Type 0
 OpenRead t at me table r left = TagRead (announces (get_or t at 0)) t (at + 1) 0 me table r left
 
 -- whatever attribute was the last, where a close token may follow; an item there has none before it
-abbrev pub TagEndRead : List ℕ → ℕ → ℕ → List ℕ → Tagged → List ℕ → Type 0
+abbrev pub TagEndRead : List ℕ → ℕ → ℕ → List ℕ → Std.Result Tag Refusal → List ℕ → Type 0
 TagEndRead t at me table r left =
     (announced : Bool) (last : ℕ) → closes announced last ≡ true → (is_item (get_or t at 0) ≡ true → last ≡ 0) → TagRead announced t at last me table r left
 
@@ -195,22 +199,17 @@ abbrev pub lacking_of : ℕ → ℕ
 lacking_of mark = pick (eqb mark close_empty_kind) disagree (pick (eqb mark close_start_kind) disagree no_body_number)
 
 -- a PI target and its data, from any state in which a target may stand, with the word w: s' is the state after the data
-abbrev pub PairRead : List ℕ → ℕ → ℕ → List ℕ → Read → List ℕ → Type 0
+abbrev pub PairRead : List ℕ → ℕ → ℕ → List ℕ → Std.Result ℕ Refusal → List ℕ → Type 0
 PairRead t at w table r left = (s s' : State) → step true deepest s at pi_target_kind ≡ move w (target w s') → resume t s' r left ≡ walk t s at table
 
 -- a reader's answer and table are those of the whole, from the state s on; s' is the state that it leaves
-abbrev pub PartRead : State → State → List ℕ → ℕ → List ℕ → Read → List ℕ → Type 0
+abbrev pub PartRead : State → State → List ℕ → ℕ → List ℕ → Std.Result ℕ Refusal → List ℕ → Type 0
 PartRead s s' t at table r left = resume t s' r left ≡ walk t s at table
 
--- "then at most one pair": nothing follows it
-abbrev pub at_end : List ℕ → Read → Read
-at_end t (R.Next j) = pick (ltb j (length t)) (R.Refused j no_body_number) (R.Next j)
-at_end t (R.Refused p k) = R.Refused p k
-
 -- a whole body's answer
-abbrev pub whole_of : Read → List ℕ → Out × List ℕ
-whole_of (R.Next j) table = (accepted, table)
-whole_of (R.Refused p k) table = (refused k p, table)
+abbrev pub whole_of : Std.Result ℕ Refusal → List ℕ → Out × List ℕ
+whole_of (Ok j) table = (accepted, table)
+whole_of (Err r) table = (refused r.number r.place, table)
 
 -- the verdict that the reader comes to
 abbrev pub verdict_of : Out → List ℕ → Result (List ℕ)
@@ -220,9 +219,9 @@ verdict_of (refused k p) words = refuses k p
 abbrev pub verdict_on : List ℕ → Result (List ℕ)
 verdict_on marks = verdict_of (outcome true deepest begin 0 marks) (words_from true deepest begin 0 marks)
 
--- words of a call's own: a place for each token that has a mark, in the sheet's words and in the owners'
-abbrev pub HasRoom : List ℕ → List ℕ → List ℕ → Type 0
-HasRoom marks words owners = (length marks ≤ 65536) × (length marks * words_per_token ≤ length words) × (length marks ≤ length owners)
+-- a stream, and a position in it
+abbrev pub Within : List ℕ → ℕ → Type 0
+Within s start = (start ≤ length s) × (length s ≤ 65536)
 
 -- a walk that was read: its tokens have these marks
 abbrev pub WalkNoted : List ℕ → ℕ → Flags → ℕ → List ℕ → Type 0

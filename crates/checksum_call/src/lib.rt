@@ -5,15 +5,12 @@ ghost use Rattle.std.specs.Prelude.{◌≡◌};
 ghost use Rattle.record.specs.Chunk.{checksum_at};
 ghost use Rattle.checksum_call.specs.Said.{said_of};
 
-use record::Checksum;
-
 // 1 where the stored checksum is right, 0 where it is not, 2 where this is no chunk.
 pub fn doortumble_bench_checksum(chunk: &[u8]) -> u32
     ensures { result ≡ said_of (checksum_at chunk.now) }
 {
     match record::check_header(chunk) {
-        Checksum::Yes => 1,
-        Checksum::No => 0,
-        Checksum::Refused(_) => 2,
+        Ok(right) => u32::from(right),
+        Err(_) => 2,
     }
 }

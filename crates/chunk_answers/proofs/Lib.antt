@@ -2,3 +2,4 @@
 pub mod Texts
 pub mod Walking
 pub mod One
+pub mod Judging

@@ -1,4 +1,6 @@
 -- Each mode's definition allows one text. Assumes nothing.
+use Rattle.std.specs.Prelude.{Result, Option}
+use Rattle.cursor.specs.declared.Refusal.{Refusal}
 use Rattle.std.proofs.Common.{◌≡◌, ℕ, Bool, true, false, ltb, List, [], ◌++◌, length, drop, sym, ap, ◌∙◌}
 use Rattle.cursor.specs.Answer.{Answer, given, refused, Maybe}
 use Rattle.record.specs.Chunk.{fields_at}
@@ -6,7 +8,6 @@ use Rattle.record.specs.Record.{record_at}
 use Rattle.record.specs.declared.Fields.{Fields}
 use Rattle.chunk.specs.Walk.{Choose, Reply, start_of}
 use Rattle.chunk.specs.declared.Walk.{Walk}
-use Rattle.chunk.specs.declared.Resync.{Resync}
 use Rattle.chunk.proofs.OneStep.{step_one, resync_one}
 use Rattle.chunk.proofs.Counting.{runs_one}
 use Rattle.print.specs.Text.{ascii}
@@ -19,7 +20,7 @@ use Rattle.chunk_answers.specs.Step.{state_at, state_line, StepLines, StepText}
 pub record_one : (s : List ℕ) (start : ℕ) (strict : Bool) (t u : List ℕ) → RecordText s start strict t → RecordText s start strict u → t ≡ u
 record_one s start strict t u h k =
     let e = resync_one s start h.resync k.resync h.after k.after in
-    h.is ∙ ap (λ (r : Resync). record_line s (record_at s start strict) ++ resync_line r) e ∙ sym k.is
+    h.is ∙ ap (λ (r : (Result (Option ℕ) Refusal)). record_line s (record_at s start strict) ++ resync_line r) e ∙ sym k.is
 
 -- mode W
 walk_by : (s : List ℕ) (recover : Bool) (t u : List ℕ) (f : Answer Fields) → WalkOn s recover t f → WalkOn s recover u f → t ≡ u

@@ -1,16 +1,16 @@
 -- Each mode's text from the parts that were put. Assumes nothing.
-use Rattle.std.proofs.Common.{◌≡◌, ℕ, ◌-◌, ◌<◌, ◌≤◌, Bool, List, [], ◌∷◌, ◌++◌, length, take, drop, sym, refl, ap, ◌∙◌, subst, append-nil, arith, length-drop, take_all, le-ltb, lt-ltb}
+use Rattle.std.specs.Prelude.{Ok, Result, Some, None, Option, is_some, unwrap_or}
+use Rattle.std.specs.Int.{from_bool}
+use Rattle.cursor.specs.declared.Refusal.{Refusal}
+use Rattle.std.proofs.Common.{◌≡◌, ℕ, ◌-◌, ◌<◌, ◌≤◌, Bool, true, false, List, [], ◌∷◌, ◌++◌, length, take, drop, sym, refl, ap, ◌∙◌, subst, append-nil, arith, length-drop, take_all, le-ltb, lt-ltb}
 use Rattle.cursor.specs.Answer.{given, Maybe, pick}
 use Rattle.record.specs.Answers.{fields_answer}
 use Rattle.record.specs.Chunk.{fields_at, checksum_at, strings_of, templates_of, header_end}
 use Rattle.record.specs.Record.{record_at}
 use Rattle.record.specs.declared.Fields.{Fields}
-use Rattle.record.specs.declared.FieldsRead.TheVariants as F
 use Rattle.record.specs.declared.Header.{Header}
 use Rattle.chunk.specs.Walk.{Reply, Steps, resync_answer, ResyncAfter}
-use Rattle.chunk.specs.declared.Place.{Place}
 use Rattle.chunk.specs.declared.Walk.{Walk}
-use Rattle.chunk.specs.declared.Resync.{Resync}
 use Rattle.print.specs.Text.{ascii, line_of, Puts, PutsSome}
 use Rattle.print.proofs.Putting.{put_none, put_as}
 use Rattle.chunk_answers.specs.Header.{field_numbers, checksum_line, table_lines, header_on, header_text}
@@ -20,7 +20,7 @@ use Rattle.chunk_answers.specs.Step.{place_numbers, state_at, state_line, StepTe
 
 -- mode H: the lines of a header that is read
 pub header_read : (s : List ℕ) (h : Header) (f : Fields) → fields_answer h.fields ≡ fields_at s → h.strings ≡ strings_of s → h.templates ≡ templates_of s
-    → h.fields ≡ F.Read f
+    → h.fields ≡ Ok f
     → line_of (ascii "header") (field_numbers f) ++ checksum_line (checksum_at s) ++ table_lines h.strings h.templates ≡ header_text s
 header_read s h f e strings templates k =
     let lines = line_of (ascii "header") (field_numbers f) ++ checksum_line (checksum_at s) in
@@ -29,7 +29,7 @@ header_read s h f e strings templates k =
     ∙ ap (header_on s) g
 
 -- mode R: the record's line and the resync line, and the record's line alone
-module _ (s : List ℕ) (start : ℕ) (strict : Bool) {lent left : List ℕ} {at end : ℕ} (resync : Resync) (after : ResyncAfter s start (resync_answer resync)) where
+module _ (s : List ℕ) (start : ℕ) (strict : Bool) {lent left : List ℕ} {at end : ℕ} (resync : Result (Option ℕ) Refusal) (after : ResyncAfter s start (resync_answer resync)) where
   pub with_resync : Puts (record_line s (record_at s start strict) ++ resync_line resync) lent at left end → PutsSome (RecordText s start strict) lent at left end
   with_resync p =
       record {
@@ -44,11 +44,19 @@ module _ (s : List ℕ) (start : ℕ) (strict : Bool) {lent left : List ℕ} {at
       with_resync (put_as (sym (append-nil line) ∙ ap (λ (l : List ℕ). line ++ l) (sym e)) p)
 
 -- mode P: the state's line
-pub state_line_lem : (w : Walk) (place : Place) (flag : ℕ) → w.place ≡ place → flag ≡ pick w.recover 1 0
-    → line_of (ascii "state") (place_numbers place ++ (w.from ∷ w.to ∷ flag ∷ [])) ≡ state_line w
-state_line_lem w place flag e f =
-    ap (λ (n : ℕ). line_of (ascii "state") (place_numbers place ++ (w.from ∷ w.to ∷ n ∷ []))) f
-    ∙ ap (λ (p : Place). line_of (ascii "state") (place_numbers p ++ (w.from ∷ w.to ∷ pick w.recover 1 0 ∷ []))) (sym e)
+place_words : (place : Option ℕ) → from_bool (is_some place) ∷ unwrap_or place 0 ∷ [] ≡ place_numbers place
+place_words (Some p) = refl
+place_words None = refl
+
+flag_word : (b : Bool) → from_bool b ≡ pick b 1 0
+flag_word true = refl
+flag_word false = refl
+
+pub state_line_lem : (w : Walk) (stands position flag : ℕ) → stands ≡ from_bool (is_some w.place) → position ≡ unwrap_or w.place 0 → flag ≡ from_bool w.recover
+    → line_of (ascii "state") (stands ∷ position ∷ w.from ∷ w.to ∷ flag ∷ []) ≡ state_line w
+state_line_lem w stands position flag e f g =
+    (λ i. line_of (ascii "state") (e i ∷ f i ∷ w.from ∷ w.to ∷ g i ∷ []))
+    ∙ (λ i. line_of (ascii "state") (place_words w.place i ++ (w.from ∷ w.to ∷ flag_word w.recover i ∷ [])))
 
 -- what stands behind the state
 pub behind : (s : List ℕ) → take (length s - 40) (drop 40 s) ≡ drop 40 s

@@ -58,6 +58,10 @@ pub walked_none : (s rows lent : List ℕ) (at : ℕ) → WalkedTo s rows lent a
 unfolding each
 walked_none s rows lent at = record { within = omega arith; kept = refl; lines = gone_none rows (LinesPut s lent at lent at) put_none }
 
+-- the same place, under another name
+pub place_is : {s rows lent out : List ℕ} {at end i j : ℕ} → i ≡ j → WalkedTo s rows lent at out end i → WalkedTo s rows lent at out end j
+place_is {s} {rows} {lent} {out} {at} {end} {i} {j} e g = subst (λ (n : ℕ). WalkedTo s rows lent at out end n) e g
+
 module _ (s rows lent : List ℕ) (at : ℕ) {out : List ℕ} {end i : ℕ} (g : WalkedTo s rows lent at out end i) where
   -- one row more
   pub walked_more : (row : Row) (next : List ℕ) (m : ℕ) → i + 5 ≤ length rows → row_words row ≡ first_row (drop i rows) → length next ≡ length out

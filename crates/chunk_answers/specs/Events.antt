@@ -1,7 +1,7 @@
 -- Mode E of docs/ANSWERS.md: the events checksum of a chunk.
 use Rattle.std.specs.Prelude.{ℕ, Bool, List}
 use Rattle.cursor.specs.Answer.{Answer, given, refused, pick}
-use Rattle.record.specs.Answers.{refusal_of}
+use Rattle.cursor.specs.Answers.{refusal_of}
 use Rattle.print.specs.Text.{ascii, refused_of}
 
 -- '`events yes` or `events no`, or `refused` number place'

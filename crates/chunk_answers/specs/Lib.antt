@@ -6,3 +6,4 @@ pub mod Record
 pub mod Walk
 pub mod Lines
 pub mod Step
+pub mod Judgement

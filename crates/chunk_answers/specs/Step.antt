@@ -1,17 +1,16 @@
 -- Mode P of docs/ANSWERS.md: one step of the walk from any state.
+use Rattle.std.specs.Prelude.{Some, None, Option}
 use Rattle.std.specs.Prelude.{◌≡◌, ℕ, Bool, not, List, [], ◌∷◌, ◌++◌, length, drop, ◌==◌, nat_lt}
 use Rattle.cursor.specs.Answer.{Maybe, pick}
 use Rattle.cursor.specs.Reads.{number_of}
 use Rattle.chunk.specs.Walk.{Choose, Reply, Steps}
-use Rattle.chunk.specs.declared.Place.{Place}
-use Rattle.chunk.specs.declared.Place.TheVariants as P
 use Rattle.chunk.specs.declared.Walk.{Walk}
 use Rattle.print.specs.Text.{ascii, line_of}
 use Rattle.chunk_answers.specs.Item.{step_line}
 
 -- '1 or 0 (a walk position stands or not), the position'; 'other flag words: not 0 counts as 1'
-abbrev pub place_of : ℕ → ℕ → Place
-place_of stands position = pick (stands == 0) P.Over (P.At position)
+abbrev pub place_of : ℕ → ℕ → Option ℕ
+place_of stands position = pick (stands == 0) None (Some position)
 
 -- 'State: five u64, little-endian: 1 or 0 (a walk position stands or not), the position, carve start, carve end, recovery 1 or 0'
 abbrev pub state_at : List ℕ → Walk
@@ -24,9 +23,9 @@ state_at s =
     }
 
 -- the same numbers of a place that came back: a walk that is over has no position, and 0 stands for it
-abbrev pub place_numbers : Place → List ℕ
-place_numbers (P.At p) = 1 ∷ p ∷ []
-place_numbers P.Over = 0 ∷ 0 ∷ []
+abbrev pub place_numbers : Option ℕ → List ℕ
+place_numbers (Some p) = 1 ∷ p ∷ []
+place_numbers None = 0 ∷ 0 ∷ []
 
 -- 'then `state` and the five numbers that came back'
 abbrev pub state_line : Walk → List ℕ

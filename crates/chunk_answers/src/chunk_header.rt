@@ -3,7 +3,8 @@ ghost use Rattle.record.specs.Chunk.{checksum_at};
 ghost use Rattle.print.specs.Text.{ascii, Puts, line_of};
 ghost use Rattle.chunk_answers.specs.Header.{field_numbers, checksum_line, table_lines, header_text};
 
-use record::{Checksum, Fields, FieldsRead, Header};
+use crate::judged;
+use record::{Fields, Header};
 
 pub fn header(out: &mut [u8], at: usize, chunk: &[u8]) -> usize
     ensures { Puts (header_text chunk.now) out.old at out.new result }
@@ -11,12 +12,12 @@ pub fn header(out: &mut [u8], at: usize, chunk: &[u8]) -> usize
     let head = record::read_header(chunk);
     let read = head.fields;
     match read {
-        FieldsRead::Read(f) => {
+        Ok(f) => {
             let a = fields(out, at, f);
             let b = checksum(out, a, chunk);
             tables(out, b, head)
         }
-        FieldsRead::Refused(r) => print::refused(out, at, r),
+        Err(r) => print::refused(out, at, r),
     }
 }
 
@@ -43,11 +44,7 @@ fn fields(out: &mut [u8], at: usize, f: Fields) -> usize
 fn checksum(out: &mut [u8], at: usize, chunk: &[u8]) -> usize
     ensures { Puts (checksum_line (checksum_at chunk.now)) out.old at out.new result }
 {
-    match record::check_header(chunk) {
-        Checksum::Yes => print::text(out, at, b"checksum yes\n"),
-        Checksum::No => print::text(out, at, b"checksum no\n"),
-        Checksum::Refused(r) => print::refused(out, at, r),
-    }
+    judged(out, at, b"checksum", record::check_header(chunk))
 }
 
 fn tables(out: &mut [u8], at: usize, head: Header) -> usize

@@ -11,7 +11,7 @@ use record::Record;
 // Where a record's payload starts.
 const PAYLOAD: usize = 24;
 
-// The line of an answer, by its row.
+// The line of an answer, by its row: its item is a number there, as the C interface lays rows.
 pub fn line(out: &mut [u8], at: usize, row: Row, chunk: &[u8]) -> usize
     ensures { Puts (row_line chunk.now (row_words row)) out.old at out.new result }
 {

@@ -1,11 +1,10 @@
 // Mode P: one step of the walk from any state.
 ghost use Rattle.std.specs.Prelude.{◌≡◌};
-ghost use Rattle.cursor.specs.Answer.{pick};
 ghost use Rattle.print.specs.Text.{Puts, PutsSome};
 ghost use Rattle.chunk_answers.specs.Step.{place_of, state_at, state_line, StepText};
 
 use crate::item;
-use chunk::{Place, Walk};
+use chunk::Walk;
 use cursor::u64_at;
 
 // The bytes of a state: five numbers before the chunk.
@@ -37,13 +36,13 @@ fn state_of(bytes: &[u8]) -> Walk
     }
 }
 
-fn place_of(stands: u64, position: u64) -> Place
+fn place_of(stands: u64, position: u64) -> Option<usize>
     ensures { result ≡ place_of stands position }
 {
     if stands == 0 {
-        Place::Over
+        None
     } else {
-        Place::At(position as usize)
+        Some(position as usize)
     }
 }
 
@@ -51,22 +50,12 @@ fn place_of(stands: u64, position: u64) -> Place
 fn state(out: &mut [u8], at: usize, w: Walk) -> usize
     ensures { Puts (state_line w) out.old at out.new result }
 {
-    let place = w.place;
-    let recover = flag(w.recover);
-    match place {
-        Place::At(p) => {
-            let numbers = [1, p as u64, w.from as u64, w.to as u64, recover];
-            print::line(out, at, b"state", &numbers)
-        }
-        Place::Over => {
-            let numbers = [0, 0, w.from as u64, w.to as u64, recover];
-            print::line(out, at, b"state", &numbers)
-        }
-    }
-}
-
-fn flag(b: bool) -> u64
-    ensures { result ≡ pick b 1 0 }
-{
-    if b { 1 } else { 0 }
+    let numbers = [
+        u64::from(w.place.is_some()),
+        w.place.unwrap_or(0) as u64,
+        w.from as u64,
+        w.to as u64,
+        u64::from(w.recover),
+    ];
+    print::line(out, at, b"state", &numbers)
 }

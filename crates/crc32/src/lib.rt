@@ -4,7 +4,7 @@
 // what a nibble becomes stands in a table. `proofs/On.antt` shows that the CRC goes on from one part to the next.
 #![tactic(auto)]
 
-ghost use Rattle.std.specs.Prelude.{◌≡◌, ◌+◌, ◌*◌, ◌<◌, ◌≤◌, [], ◌∷◌, length, take, drop};
+ghost use Rattle.std.specs.Prelude.{◌≡◌, ◌+◌, ◌*◌, ◌<◌, ◌≤◌, length, take, drop};
 ghost use Rattle.crc32.specs.Crc.{shift_bits, shift_byte, crc_over, crc_on, crc_of};
 ghost use Rattle.crc32.specs.Helpers.{Ruled, little};
 
@@ -278,7 +278,8 @@ fn nibble(t: &[u32; 256], row: usize, k: u32) -> u32
     t[16 * row + k as usize]
 }
 
-// A byte, shifted in the same way: its high nibble stands one row lower.
+// A byte, shifted in the same way: its high nibble stands one row lower. The three functions from here on differ in a number alone, but each
+// calls the one before it, and a const argument that is half of another cannot be written.
 fn byte(t: &[u32; 256], row: usize, v: u32) -> u32
     requires ruled { Ruled t.now }
     requires le_row { (1 ≤ row) × (row < 16) × (v < 256) }
@@ -305,19 +306,12 @@ fn word(t: &[u32; 256], row: usize, v: u32) -> u32
     pair(t, row, v % 65536) ^ pair(t, row - 4, v / 65536)
 }
 
-// Four bytes as a number, the first the lowest.
-fn join(a: u8, b: u8, c: u8, d: u8) -> u32
-    ensures { result ≡ little (a ∷ b ∷ c ∷ d ∷ []) }
-{
-    a as u32 + 256 * (b as u32) + 65536 * (c as u32) + 0x100_0000 * (d as u32)
-}
-
-// The four bytes at a place, as a number.
+// The four bytes at a place as a number, the first the lowest.
 fn word_at(s: &[u8], at: usize) -> u32
     requires { at + 4 ≤ length s.now }
     ensures { result ≡ little (take 4 (drop at s.now)) }
 {
-    join(s[at], s[at + 1], s[at + 2], s[at + 3])
+    u32::from_le_bytes([s[at], s[at + 1], s[at + 2], s[at + 3]])
 }
 
 // One byte more.
@@ -339,17 +333,15 @@ fn eight(t: &[u32; 256], c: u32, s: &[u8], at: usize) -> u32
     word(t, 7, word_at(s, at + 4)) ^ word(t, 15, c ^ word_at(s, at))
 }
 
-// The first n eights of s.
+// The first n eights of s. By places, as `eight` reads from the lent slice itself.
 fn eights(t: &[u32; 256], first: u32, s: &[u8], n: usize) -> u32
     requires ruled { Ruled t.now }
     requires n_in_bounds { 8 * n ≤ length s.now }
     ensures { result ≡ crc_over first (take (8 * n) s.now) }
 {
     let mut c = first;
-    let mut k = 0;
-    while k < n {
+    for k in 0..n {
         c = eight(t, c, s, 8 * k);
-        k += 1;
     }
     c
 }
@@ -360,10 +352,8 @@ fn ones(t: &[u32; 256], first: u32, s: &[u8]) -> u32
     ensures { result ≡ crc_over first s.now }
 {
     let mut c = first;
-    let mut i = 0;
-    while i < s.len() {
-        c = one(t, c, s[i]);
-        i += 1;
+    for b in s {
+        c = one(t, c, *b);
     }
     c
 }

@@ -24,18 +24,15 @@ fn numbered(rt: &impl Print, name: &[u8], n: usize, crc: u32) -> io::Result<()> 
 // Fills a: the first byte, and then each the one before it and `step` more, modulo 256.
 fn fill(a: &mut [u8], first: u8, step: u8) {
     let mut x = first;
-    let mut i = 0;
-    while i < a.len() {
-        a[i] = x;
-        x = std::num::wrapping_add_u8(x, step);
-        i += 1;
+    for b in a {
+        *b = x;
+        x = x.wrapping_add(step);
     }
 }
 
 // The beginnings of s, of each length.
 fn lengths(rt: &impl Print, s: &[u8]) -> io::Result<()> {
-    let end = s.len() + 1;
-    for n in 0..end {
+    for n in 0..=s.len() {
         numbered(rt, b"length", n, crc32::crc32(&s[..n]))?;
     }
     Ok(())
@@ -43,8 +40,7 @@ fn lengths(rt: &impl Print, s: &[u8]) -> io::Result<()> {
 
 // s cut in two at each place: the CRC of the first part, gone on over the second.
 fn cuts(rt: &impl Print, s: &[u8]) -> io::Result<()> {
-    let end = s.len() + 1;
-    for k in 0..end {
+    for k in 0..=s.len() {
         let first = crc32::crc32(&s[..k]);
         numbered(rt, b"cut", k, crc32::crc32_on(first, &s[k..]))?;
     }

@@ -1,14 +1,13 @@
--- The bytes of a magic, compared one by one. Assumes nothing.
+-- The bytes of a magic at the beginning of a list. Assumes nothing.
 use mathlib.Core.Path.{◌≡◌, refl}
 use mathlib.Core.Bool.{Bool, true, false, ◌&&◌}
 use mathlib.Core.List.{List, [], ◌∷◌}
-use Prim.Native.Nat.{ℕ, ◌+◌, ◌≤◌, ◌<◌}
-use native.Mathlib.Numerals.{add-one}
+use Prim.Native.Nat.{ℕ, ◌<◌}
 use native.Mathlib.Omega.{arith}
-use borrow.Author.Tests.{eq-eqb, ne_eqb}
 use lib.Dec.{eqb}
-use lib.ListN.{length, drop, get_or, drop_of_length-le}
-use lib.Seq.{drop-cons}
+use lib.ListN.{length, take}
+use Rattle.std.specs.Cmp.Lexicographic.{pointwise}
+use Rattle.std.proofs.lemmas.Bool.Decides.{nat_tests}
 use Rattle.cursor.specs.Reads.{starts_with}
 
 and_false : (b : Bool) → b && false ≡ false
@@ -22,16 +21,12 @@ too_long t [] h = absurd (omega arith)
 too_long [] (b ∷ m) h = refl
 too_long (a ∷ t) (b ∷ m) h = rw (too_long t m (omega arith)) (and_false (eqb a b))
 
--- at the byte i: it differs, or the rest is compared, or no byte is left
-module _ (t m : List ℕ) (i : ℕ) where
-  pub byte_differs : i < length t → i < length m → (get_or t i 0 ≡ get_or m i 0 → ⊥) → starts_with (drop i t) (drop i m) ≡ false
-  unfolding starts_with
-  byte_differs h k e = rw (drop-cons t i 0 h, drop-cons m i 0 k, ne_eqb _ _ e)
+eqb_turned : (a b : ℕ) → eqb a b ≡ eqb b a
+eqb_turned a b = grind (arith, nat_tests)
 
-  pub byte_equal : i < length t → i < length m → get_or t i 0 ≡ get_or m i 0 → starts_with (drop i t) (drop i m) ≡ starts_with (drop (i + 1) t) (drop (i + 1) m)
-  unfolding starts_with
-  byte_equal h k e = rw (drop-cons t i 0 h, drop-cons m i 0 k, eq-eqb _ _ e, add-one i)
-
-  pub no_byte : length m ≤ i → starts_with (drop i t) (drop i m) ≡ true
-  unfolding starts_with
-  no_byte h = rw (drop_of_length-le m h)
+-- std's comparison of the first bytes
+pub prefix : (t m : List ℕ) → pointwise eqb m (take (length m) t) ≡ starts_with t m
+unfolding starts_with
+prefix t [] = refl
+prefix [] (b ∷ m) = refl
+prefix (a ∷ t) (b ∷ m) = rw (eqb_turned b a, prefix t m)

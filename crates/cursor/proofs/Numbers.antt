@@ -1,8 +1,9 @@
 -- Little-endian numbers: one fact over the width. Assumes nothing.
-use mathlib.Core.Path.{◌≡◌}
-use mathlib.Core.List.{List, [], ◌∷◌}
+use mathlib.Core.Path.{◌≡◌, refl}
+use mathlib.Core.List.{List, [], ◌∷◌, ◌++◌}
 use Prim.Native.Nat.{ℕ, zero, suc, ◌+◌, ◌*◌, ◌^◌, ◌≤◌, ◌<◌}
 use native.Mathlib.Nat.{zero-add, suc-add, pow-succ'}
+use native.Mathlib.Numerals.{add-one}
 use native.Mathlib.Omega.{arith}
 use lib.ListN.{length, take, drop, get_or, drop_of_length-le}
 use lib.Seq.{drop-drop, drop-cons, take-nil}
@@ -24,7 +25,35 @@ pub number_one : (s : List ℕ) (at : ℕ) → at < length s → number_of s at 
 unfolding little
 number_one s at h = rw (drop-cons s at 0) (omega arith)
 
+-- a number of more is its first byte, and 256 times the number of those after it
+pub number_more : (s : List ℕ) (at next w : ℕ) → at < length s → next ≡ at + 1 → number_of s at (suc w) ≡ get_or s at 0 + 256 * number_of s next w
+unfolding little
+number_more s at next w h e = rw (drop-cons s at 0 h, e, add-one)
+
 -- past the end there is no byte
 pub number_none : (s : List ℕ) (at w : ℕ) → length s ≤ at → number_of s at w ≡ 0
 unfolding little
 number_none s at w h = rw (drop_of_length-le s h, take-nil w)
+
+-- zeros behind a list's bytes change no number of it
+zeros : ℕ → List ℕ
+zeros zero = []
+zeros (suc m) = 0 ∷ zeros m
+
+of_zeros : (m n k : ℕ) → little (take k (drop n (zeros m))) ≡ 0
+unfolding little zeros
+of_zeros zero zero k = rw (take-nil k)
+of_zeros zero (suc n) k = rw (take-nil k)
+of_zeros (suc m) zero zero = refl
+of_zeros (suc m) zero (suc k) = omega (arith, of_zeros m zero k)
+of_zeros (suc m) (suc n) k = of_zeros m n k
+
+before_zeros : (l z : List ℕ) (w : ℕ) → ((k : ℕ) → little (take k z) ≡ 0) → little (take w (l ++ z)) ≡ little (take w l)
+unfolding little
+before_zeros [] z w e = rw (take-nil w, e w)
+before_zeros (x ∷ l) z zero e = refl
+before_zeros (x ∷ l) z (suc w) e = rw (before_zeros l z w e)
+
+pub number_filled : (l : List ℕ) (w : ℕ) → little (take w (l ++ drop (length l) (0 ∷ 0 ∷ 0 ∷ 0 ∷ 0 ∷ 0 ∷ 0 ∷ 0 ∷ []))) ≡ little (take w l)
+unfolding zeros
+number_filled l w = before_zeros l _ w (of_zeros 8 (length l))

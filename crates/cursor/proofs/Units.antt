@@ -5,7 +5,7 @@ use Prim.Native.Nat.{ℕ, zero, suc, ◌+◌, ◌-◌, ◌*◌, ◌/◌, ◌≤�
 use native.Mathlib.Numerals.{add-one}
 use native.Mathlib.Omega.{arith}
 use borrow.Author.Tests.{eq-eqb, ne_eqb, lt-ltb, le-ltb}
-use lib.ListN.{length, take, drop, get_or, length-drop, drop_of_length-le}
+use lib.ListN.{length, take, drop, get_or, length-drop, drop_of_length-le, get_or-eq_default}
 use lib.Seq.{drop-cons, take_all}
 use lib.Dec.{eqb}
 use Rattle.cursor.specs.Reads.{little, bytes_of}
@@ -30,6 +30,10 @@ unit_is (a ∷ (b ∷ t)) zero h = omega arith
 unit_is (a ∷ (b ∷ t)) (suc n) h =
     let e : 2 * suc n ≡ suc (suc (2 * n)) = omega arith in
     unit_is t n (omega arith) ∙ ap (λ (m : ℕ). little (bytes_of (a ∷ (b ∷ t)) m 2)) (sym e)
+
+-- past the end there is no unit
+pub no_unit : (t : List ℕ) (n : ℕ) → length t / 2 ≤ n → get_or (units_of t) n 0 ≡ 0
+no_unit t n h = get_or-eq_default (units_of t) 0 {n = n} (omega (arith, units_length t))
 
 -- the first units are those of the first bytes
 pub units_front : (t : List ℕ) (n : ℕ) → units_of (take (2 * n) t) ≡ take n (units_of t)

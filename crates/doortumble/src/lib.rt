@@ -119,8 +119,8 @@ pub fn packed(c: Counted) -> u64
     ensures { result ≡ packed_of (count_answer c) }
 {
     match c {
-        Counted::Count(n) => (n % 0x100_0000_0000) as u64,
-        Counted::Refused(r) => {
+        Ok(n) => (n % 0x100_0000_0000) as u64,
+        Err(r) => {
             0x8000_0000_0000_0000
                 + (r.number % 0x80) as u64 * 0x100_0000_0000_0000
                 + (r.place % 0x100_0000_0000) as u64

@@ -1,2 +1,3 @@
 -- Laws that the proofs here cite.
 pub mod Flag
+pub mod Least

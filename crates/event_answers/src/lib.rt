@@ -2,8 +2,7 @@
 // they leave in the lent words, as text behind what is in a lent buffer.
 #![tactic(auto)]
 
-ghost use Rattle.std.specs.Prelude.{◌≡◌, ◌-◌, ◌^◌, ◌≤◌, leb, take, drop};
-ghost use Rattle.cursor.specs.Answer.{pick};
+ghost use Rattle.std.specs.Prelude.{◌≡◌, ◌-◌, ◌^◌, take, drop};
 ghost use Rattle.print.specs.Text.{Puts, PutsSome};
 ghost use Rattle.stream_answers.specs.Modes.{room_in, stream_of, lent_words, answer_text, words_text};
 ghost use Rattle.event_answers.specs.Called.{EventCalled, name_text};
@@ -38,7 +37,7 @@ fn event_of(
 ) -> usize
     ensures { PutsSome (EventCalled (stream_of bytes.now) start length inline (take (room_in bytes.now) words.old)) out.old at out.new result }
 {
-    let n = at_most(cursor::u32_at(bytes, 0) as usize, words.len());
+    let n = (cursor::u32_at(bytes, 0) as usize).min(words.len());
     event_in(
         out,
         at,
@@ -61,7 +60,7 @@ fn event_in(
 ) -> usize
     ensures { PutsSome (EventCalled s.now start length inline words.old) out.old at out.new result }
 {
-    let r = event_call::doortumble_event(s, start, length, inline as u32, words);
+    let r = event_call::doortumble_event(s, start, length, u32::from(inline), words);
     let end = said(out, at, r);
     words_line(out, end, words)
 }
@@ -84,7 +83,7 @@ fn name_of(
 ) -> usize
     ensures { Puts (name_text (stream_of bytes.now) offset inline (take (room_in bytes.now) words.old)) out.old at out.new result }
 {
-    let n = at_most(cursor::u32_at(bytes, 0) as usize, words.len());
+    let n = (cursor::u32_at(bytes, 0) as usize).min(words.len());
     name_in(out, at, behind(bytes), offset, inline, &mut words[..n])
 }
 
@@ -98,28 +97,16 @@ fn name_in(
 ) -> usize
     ensures { Puts (name_text s.now offset inline words.old) out.old at out.new result }
 {
-    let r = event_call::doortumble_name(s, offset, inline as u32, words);
+    let r = event_call::doortumble_name(s, offset, u32::from(inline), words);
     let end = said(out, at, r);
     words_line(out, end, words)
-}
-
-fn at_most(room: usize, there: usize) -> usize
-    ensures { (result ≡ pick (leb room there) room there) × (result ≤ there) }
-{
-    if room <= there {
-        return room;
-    }
-    there
 }
 
 // What stands behind the front of a case's data: the stream.
 fn behind(bytes: &[u8]) -> &[u8]
     ensures { result.now ≡ drop 4 bytes.now }
 {
-    if bytes.len() < ROOM {
-        return &bytes[..0];
-    }
-    &bytes[ROOM..]
+    &bytes[ROOM.min(bytes.len())..]
 }
 
 // The answer's word, and the words that were lent.

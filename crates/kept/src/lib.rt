@@ -43,10 +43,8 @@ pub fn narrow(
     ensures result_value { count_answer result ≡ kept_answer words_of old_words_of (walk_of s.now start length flags) sheet.now old.old }
     ensures after { old.new ≡ kept_words words_of old_words_of (walk_of s.now start length flags) sheet.now old.old }
 {
-    match sheet::count_beside(s, start, length, flags, sheet, Form::New) {
-        Counted::Count(_) => narrowed(sheet, old),
-        Counted::Refused(r) => Counted::Refused(r),
-    }
+    sheet::count_beside(s, start, length, flags, sheet, Form::New)?;
+    narrowed(sheet, old)
 }
 
 // The old words of a sheet that is accepted, where they have room: no token has to be read again for them.
@@ -56,23 +54,17 @@ fn narrowed(sheet: &[u64], old: &mut [u64]) -> Counted
 {
     let tokens = sheet.len() / 2;
     if old.len() < tokens {
-        return Counted::Refused(Refusal {
-            number: Refusal::NO_ROOM,
-            place: tokens,
-        });
+        return cursor::refuse(Refusal::NO_ROOM, tokens);
     }
     lay_old(sheet, old);
-    Counted::Count(tokens)
+    Ok(tokens)
 }
 
 fn lay_old(sheet: &[u64], old: &mut [u64])
     requires { length (old_of sheet.now) ≤ length old.old }
     ensures { old.new ≡ laid (old_of sheet.now) old.old }
 {
-    let tokens = sheet.len() / 2;
-    let mut i: usize = 0;
-    while i < tokens {
+    for i in 0..sheet.len() / 2 {
         old[i] = sheet::without_bit(sheet[2 * i]);
-        i += 1;
     }
 }

@@ -14,7 +14,7 @@ ghost use Rattle.merge.specs.Rows.{wins_by};
 
 use cursor::{Counted, Refusal};
 
-// Which write of a tag wins where both lists have it.
+// Which write of a tag wins where both lists have it. (A name and no closure: the definitions name the two rules.)
 #[derive(Clone, Copy)]
 pub enum Rule {
     // Rule one: the primary's newest.
@@ -36,13 +36,13 @@ pub fn merge(primary: &[u64], other: &[u64], rule: Rule, res: &mut [u64]) -> Cou
     ensures { Merges primary.now other.now rule res.old res.new (count_answer result) }
 {
     if MOST_WRITES < primary.len() / 3 {
-        return Counted::Refused(Refusal {
+        return Err(Refusal {
             number: LONG_LIST,
             place: 0,
         });
     }
     if MOST_WRITES < other.len() / 3 {
-        return Counted::Refused(Refusal {
+        return Err(Refusal {
             number: LONG_LIST,
             place: 1,
         });

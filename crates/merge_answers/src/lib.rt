@@ -15,13 +15,22 @@ pub const FRONT: usize = 12;
 // The most words of a list: a case's data holds no more.
 const MOST_GIVEN: usize = 41470;
 
-// Mode M: rule two, or rule one.
+// Mode M: rule two, or rule one. The primary's words stand behind the front, the other's behind them. The words that are lent are the first
+// of those that are there, or all of them.
 pub fn merged(out: &mut [u8], at: usize, bytes: &[u8], newest: bool) -> usize
     ensures { PutsSome (MergeCalled (primary_in bytes.now) (other_in bytes.now) (rule_by newest) (lent_in bytes.now)) out.old at out.new result }
 {
-    let mut primary = [0u64; MOST_GIVEN];
+    let mut first = [0u64; MOST_GIVEN];
+    let mut second = [0u64; MOST_GIVEN];
+    let mut words = [0xFFFF_FFFF_FFFF_FFFFu64; 65536];
     let a = count(bytes, 0);
-    with_primary(out, at, bytes, newest, &mut primary[..a])
+    let primary = &mut first[..a];
+    load(bytes, FRONT, primary);
+    let b = count(bytes, 4);
+    let other = &mut second[..b];
+    load(bytes, FRONT + 8 * a, other);
+    let room = (cursor::u32_at(bytes, 8) as usize).min(65536);
+    called(out, at, newest, primary, other, &mut words[..room])
 }
 
 // How much data a case has, as its front says.
@@ -31,73 +40,7 @@ pub fn front(bytes: &[u8]) -> usize
     FRONT + 8 * (cursor::u32_at(bytes, 0) as usize) + 8 * (cursor::u32_at(bytes, 4) as usize)
 }
 
-// The primary's words stand behind the front.
-fn with_primary(out: &mut [u8], at: usize, bytes: &[u8], newest: bool, primary: &mut [u64]) -> usize
-    requires { length primary.old ≤ most_given }
-    ensures { PutsSome (MergeCalled (stored_words (length primary.old) bytes.now 12) (stored_words (count_at bytes.now 4) bytes.now (12 + 8 * length primary.old)) (rule_by newest) (lent_in bytes.now)) out.old at out.new result }
-{
-    load(bytes, FRONT, primary);
-    beside(out, at, bytes, newest, primary)
-}
-
-fn beside(out: &mut [u8], at: usize, bytes: &[u8], newest: bool, primary: &[u64]) -> usize
-    requires { length primary.now ≤ most_given }
-    ensures { PutsSome (MergeCalled primary.now (stored_words (count_at bytes.now 4) bytes.now (12 + 8 * length primary.now)) (rule_by newest) (lent_in bytes.now)) out.old at out.new result }
-{
-    let mut other = [0u64; MOST_GIVEN];
-    let b = count(bytes, 4);
-    with_other(out, at, bytes, newest, primary, &mut other[..b])
-}
-
-// The other's behind them.
-fn with_other(
-    out: &mut [u8],
-    at: usize,
-    bytes: &[u8],
-    newest: bool,
-    primary: &[u64],
-    other: &mut [u64],
-) -> usize
-    requires { (length primary.now ≤ most_given) × (length other.old ≤ most_given) }
-    ensures { PutsSome (MergeCalled primary.now (stored_words (length other.old) bytes.now (12 + 8 * length primary.now)) (rule_by newest) (lent_in bytes.now)) out.old at out.new result }
-{
-    load(bytes, FRONT + 8 * primary.len(), other);
-    lent(out, at, bytes, newest, primary, other)
-}
-
-fn lent(
-    out: &mut [u8],
-    at: usize,
-    bytes: &[u8],
-    newest: bool,
-    primary: &[u64],
-    other: &[u64],
-) -> usize
-    ensures { PutsSome (MergeCalled primary.now other.now (rule_by newest) (lent_in bytes.now)) out.old at out.new result }
-{
-    let mut words = [0xFFFF_FFFF_FFFF_FFFFu64; 65536];
-    in_room(out, at, bytes, newest, primary, other, &mut words)
-}
-
-// The words that are lent are the first of those that are there, or all of them.
-fn in_room(
-    out: &mut [u8],
-    at: usize,
-    bytes: &[u8],
-    newest: bool,
-    primary: &[u64],
-    other: &[u64],
-    words: &mut [u64],
-) -> usize
-    ensures { PutsSome (MergeCalled primary.now other.now (rule_by newest) (take (room_in bytes.now) words.old)) out.old at out.new result }
-{
-    let room = cursor::u32_at(bytes, 8) as usize;
-    if words.len() < room {
-        return called(out, at, newest, primary, other, words);
-    }
-    called(out, at, newest, primary, other, &mut words[..room])
-}
-
+// The merge of the two lists, and what it leaves in the lent words.
 fn called(
     out: &mut [u8],
     at: usize,
@@ -134,11 +77,7 @@ fn words_line(out: &mut [u8], at: usize, words: &[u64]) -> usize
 fn count(bytes: &[u8], at: usize) -> usize
     ensures { (result ≡ count_at bytes.now at) × (result ≤ most_given) }
 {
-    let n = cursor::u32_at(bytes, at) as usize;
-    if MOST_GIVEN < n {
-        return MOST_GIVEN;
-    }
-    n
+    (cursor::u32_at(bytes, at) as usize).min(MOST_GIVEN)
 }
 
 // Words of eight bytes each from a place on.
@@ -146,9 +85,7 @@ fn load(bytes: &[u8], from: usize, words: &mut [u64])
     requires { (length words.old ≤ most_given) × (from ≤ 12 + 8 * most_given) }
     ensures { words.new ≡ stored_words (length words.old) bytes.now from }
 {
-    let mut i: usize = 0;
-    while i < words.len() {
-        words[i] = cursor::u64_at(bytes, from + 8 * i);
-        i += 1;
+    for (i, word) in words.iter_mut().enumerate() {
+        *word = cursor::u64_at(bytes, from + 8 * i);
     }
 }

@@ -1,23 +1,23 @@
 -- The name at an offset. docs/EVENT.md: "The name at an offset: u32, hash u16, count u16, units (inline: document 01's inline name, with 11 and
 -- 12)." Nothing is followed from there, and nothing else is asked of the place.
-use Rattle.std.specs.Prelude.{ℕ, ◌+◌, ◌*◌, ◌%◌, ◌^◌, Bool, true, false, List, [], ◌∷◌, length, ◌==◌, nat_le}
+use Rattle.std.specs.Prelude as Std
+use Rattle.std.specs.Prelude.{Ok, Err, ℕ, ◌+◌, ◌*◌, ◌%◌, ◌^◌, Bool, true, false, List, [], ◌∷◌, length, ◌==◌, nat_le}
 use Rattle.cursor.specs.Answer.{Answer, given, refused, Result, gives, refuses, ◌then◌, pick}
 use Rattle.cursor.specs.Reads.{number_at, take_at, set_to, part_of}
 use Rattle.cursor.specs.Refusals.{wrong_length, no_room_number}
 use Rattle.cursor.specs.Text.{units_of, well_formed}
+use Rattle.cursor.specs.declared.Refusal.{Refusal}
 use Rattle.name.specs.Hash.{hash_of}
 use Rattle.name.specs.Name.{inline_name_at}
 use Rattle.name.specs.declared.Name.{Name}
 use Rattle.name.specs.declared.Soundness.{Soundness}
 use Rattle.name.specs.declared.Soundness.TheVariants.{Sound, Unsound, NotJudged}
 use Rattle.name.specs.declared.lookup.Found.{Found}
-use Rattle.name.specs.declared.lookup.LookedUp.{LookedUp}
-use Rattle.name.specs.declared.lookup.LookedUp.TheVariants as L
 
 -- what a look-up answers
-abbrev pub looked_answer : LookedUp → Result Found
-looked_answer (L.Name f) = gives f
-looked_answer (L.Refused r) = refuses r.number r.place
+abbrev pub looked_answer : Std.Result Found Refusal → Result Found
+looked_answer (Ok f) = gives f
+looked_answer (Err r) = refuses r.number r.place
 
 abbrev pub found : ℕ → ℕ → Bool → Bool → Found
 found units count sound hashed = record { units = units; count = count; sound = sound; hashed = hashed }
@@ -68,25 +68,3 @@ found_answer (refuses k p) lent = refuses k p
 abbrev pub found_words : Result Found → Result (List ℕ)
 found_words (gives f) = gives (found_word f ∷ [])
 found_words (refuses k p) = refuses k p
-
--- pieces, which private functions cite: a name from each read on
-abbrev pub after_start : List ℕ → ℕ → Result Found
-after_start s at =
-    looked_at
-    (number_at s at 2 then λ hash at.
-    number_at s at 2 then λ n at.
-    take_at s at (2 * n) then λ p next.
-    given (found_of hash p.start n (units_of (part_of s p))) next)
-
-abbrev pub after_stored : List ℕ → ℕ → ℕ → Result Found
-after_stored s hash at =
-    looked_at
-    (number_at s at 2 then λ n at.
-    take_at s at (2 * n) then λ p next.
-    given (found_of hash p.start n (units_of (part_of s p))) next)
-
-abbrev pub after_number : List ℕ → ℕ → ℕ → ℕ → Result Found
-after_number s hash n at =
-    looked_at
-    (take_at s at (2 * n) then λ p next.
-    given (found_of hash p.start n (units_of (part_of s p))) next)

@@ -1,20 +1,13 @@
 -- Offset names and inline names. Document 01, "Token walk"; document 02, P7.
 use Rattle.std.specs.Prelude.{ℕ, zero, suc, ◌+◌, ◌*◌, Bool, List, [], ◌∷◌, ◌==◌}
-use Rattle.cursor.specs.Answer.{Answer, given, refused, ◌then◌, must, pick}
-use Rattle.cursor.specs.Answers.{refusal}
+use Rattle.cursor.specs.Answer.{Answer, given, ◌then◌, must, pick}
 use Rattle.cursor.specs.Reads.{number_at, set_to}
 use Rattle.cursor.specs.Refusals.{name_not_ended, name_hash}
 use Rattle.cursor.specs.Text.{well_formed}
 use Rattle.name.specs.Hash.{hash_of}
 use Rattle.name.specs.declared.Name.{Name}
-use Rattle.name.specs.declared.NameRead.{NameRead}
-use Rattle.name.specs.declared.NameRead.TheVariants as N
 use Rattle.name.specs.declared.Soundness.{Soundness}
 use Rattle.name.specs.declared.Soundness.TheVariants.{Sound, Unsound, NotJudged}
-
-abbrev pub name_answer : NameRead → Answer Name
-name_answer (N.Read n c) = given n c.at
-name_answer (N.Refused r) = refusal r
 
 -- a name: its offset, where its units stand, how many they are, and what is said of them. Every name is this one
 abbrev pub name_of : ℕ → ℕ → ℕ → Soundness → Name

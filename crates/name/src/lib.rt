@@ -8,18 +8,17 @@ mod offset;
 ghost use Rattle.std.specs.Prelude.{◌≡◌, [], ◌∷◌};
 ghost use Rattle.cursor.specs.Text.{units_of};
 ghost use Rattle.cursor.specs.Answer.{gives};
-ghost use Rattle.cursor.specs.Answers.{count_answer};
+ghost use Rattle.cursor.specs.Answers.{count_answer, read_answer};
 ghost use Rattle.cursor.specs.Lent.{lent_left};
 ghost use Rattle.name.specs.Hash.{hash_of, mixed};
 ghost use Rattle.name.specs.Lookup.{looked_up, found_answer, found_words, found_word};
-ghost use Rattle.name.specs.Name.{name_at, name_answer, name_of, soundness_of};
+ghost use Rattle.name.specs.Name.{name_at, name_of, soundness_of};
 
-use cursor::{Counted, Cursor, Refusal, unit_at};
-use lookup::{Found, LookedUp};
-use std::num::{wrapping_add_u32, wrapping_sub_u32};
+use cursor::{Counted, Cursor, Read, Refusal, refuse, unit_at};
+use lookup::Found;
 
 // Whether a name's units are well-formed UTF-16. An offset name's are not judged, which is no case of sound.
-#[derive(Clone, Copy)]
+#[derive(Clone, Copy, PartialEq, Eq)]
 pub enum Soundness {
     Sound,
     Unsound,
@@ -36,21 +35,15 @@ pub struct Name {
     pub soundness: Soundness,
 }
 
-#[derive(Clone, Copy)]
-pub enum NameRead {
-    Read(Name, Cursor),
-    Refused(Refusal),
-}
-
 // Every name is made here.
 pub(crate) fn named(offset: usize, units: usize, count: usize, soundness: Soundness) -> Name
     ensures { result ≡ name_of offset units count soundness }
 {
     Name {
-        offset: offset,
-        units: units,
-        count: count,
-        soundness: soundness,
+        offset,
+        units,
+        count,
+        soundness,
     }
 }
 
@@ -66,8 +59,8 @@ pub(crate) fn soundness_of(units: &[u8]) -> Soundness
 }
 
 // Reads the name at the cursor.
-pub fn read_name_ref(c: Cursor, s: &[u8], inline: bool) -> NameRead
-    ensures { name_answer result ≡ name_at s.now c.at inline }
+pub fn read_name_ref(c: Cursor, s: &[u8], inline: bool) -> Read<Name>
+    ensures { read_answer result ≡ name_at s.now c.at inline }
 {
     if inline {
         inline::read_inline_name(c, s)
@@ -82,24 +75,19 @@ pub fn look_up(s: &[u8], offset: u32, inline: bool, word: &mut [u64]) -> Counted
     ensures result_value { count_answer result ≡ found_answer (looked_up s.now offset inline) word.old }
     ensures word_after { word.new ≡ lent_left (found_words (looked_up s.now offset inline)) word.old }
 {
-    match lookup::look_up(s, offset, inline) {
-        LookedUp::Name(f) => laid(f, word),
-        LookedUp::Refused(r) => Counted::Refused(r),
-    }
+    let f = lookup::look_up(s, offset, inline)?;
+    laid(f, word)
 }
 
 fn laid(f: Found, word: &mut [u64]) -> Counted
     ensures result_value { count_answer result ≡ found_answer (gives f) word.old }
     ensures word_after { word.new ≡ lent_left (gives (found_word f ∷ [])) word.old }
 {
-    if word.len() < 1 {
-        return Counted::Refused(Refusal {
-            number: Refusal::NO_ROOM,
-            place: 1,
-        });
+    if word.is_empty() {
+        return refuse(Refusal::NO_ROOM, 1);
     }
     word[0] = word_of(f);
-    Counted::Count(f.count)
+    Ok(f.count)
 }
 
 fn word_of(f: Found) -> u64
@@ -111,14 +99,13 @@ fn word_of(f: Found) -> u64
 }
 
 // The hash of a run of units.
+#[tactic(auto, using(crate::proofs::Hash::hash_more, crate::proofs::Hash::hash_end, cursor::proofs::Units::units_length))]
 pub fn name_hash(units: &[u8]) -> u16
     ensures { result ≡ hash_of (units_of units.now) }
 {
     let mut h: u32 = 0;
-    let mut n: usize = 0;
-    while n < units.len() / 2 {
+    for n in 0..units.len() / 2 {
         h = mix(h, unit_at(units, n));
-        n += 1;
     }
     (h % 0x1_0000) as u16
 }
@@ -129,8 +116,8 @@ fn mix(h: u32, unit: u16) -> u32
     ensures { result ≡ mixed h unit }
 {
     let moved_up_by_16 = h << 16;
-    let plus_moved_up_by_6 = wrapping_add_u32(moved_up_by_16, h << 6);
-    let less_itself = wrapping_sub_u32(plus_moved_up_by_6, h);
-    let plus_the_unit = wrapping_add_u32(less_itself, unit as u32);
+    let plus_moved_up_by_6 = moved_up_by_16.wrapping_add(h << 6);
+    let less_itself = plus_moved_up_by_6.wrapping_sub(h);
+    let plus_the_unit = less_itself.wrapping_add(unit as u32);
     plus_the_unit
 }

@@ -120,16 +120,19 @@ not_both x a k p e q =
 -- the walk goes again into the buffers themselves
 pub again : (s : List ℕ) (room : ℕ) (x : Result (List Entry)) (end n : ℕ) (own owners sheet₀ sheet table₀ table : List ℕ) (o : Result ℕ) → Noted x n own owners
     → length s ≤ room → n * 2 ≤ length sheet₀ → n ≤ length table₀ → WalkRead s room x 0 false end sheet₀ sheet table₀ table o
-    → (gives n ≡ both_answer (both_words x) (both sheet₀ table₀)) × (both sheet table ≡ both_left (both_words x) (both sheet₀ table₀))
+    → (o ≡ both_answer (both_words x) (both sheet₀ table₀)) × (both sheet table ≡ both_left (both_words x) (both sheet₀ table₀))
 again s room x end n own owners sheet₀ sheet table₀ table (gives m) h b p q w =
     let l = h.entries in
     let y = w.0 in
     let z = same_entries x y.entries l y.holds h.holds in
     let c : length (sheet_of l) ≤ length sheet₀ = omega (arith, sheet_length l, h.count, p) in
     let d : length (owners_of l) ≤ length table₀ = omega (arith, length-map l (λ (e : Entry). e.word), h.count, q) in
+    let g : m ≡ n = omega (arith, y.count, ap (length {A = Entry}) z, h.count) in
+    let r =
     both_laid x l h.holds n h.count sheet₀ table₀ sheet table p q
-    (y.words ∙ ap (λ (r : List Entry). sets sheet₀ 0 (sheet_of r)) z ∙ set_laid sheet₀ (sheet_of l) c)
-    (y.owners ∙ ap (λ (r : List Entry). sets table₀ 0 (owners_of r)) z ∙ set_laid table₀ (owners_of l) d)
+    (y.words ∙ ap (λ (e : List Entry). sets sheet₀ 0 (sheet_of e)) z ∙ set_laid sheet₀ (sheet_of l) c)
+    (y.owners ∙ ap (λ (e : List Entry). sets table₀ 0 (owners_of e)) z ∙ set_laid table₀ (owners_of l) d) in
+    (ap gives g ∙ r.0, r.1)
 again s room x end n own owners sheet₀ sheet table₀ table (refuses k i) h b p q w =
     absurd (⊎_elim (λ y. omega (arith, y.1, b)) (λ y. not_both x h.entries k i h.holds y) w)
 
@@ -158,26 +161,20 @@ module _ (s : List ℕ) (start len : ℕ) (f : Flags) (lent left : Both) (o : Re
   by_refusal k p e q r =
       by_any (subst (λ (w : Result (ℕ × ℕ)). (o ≡ both_answer (both_words (in_window verdict_on s f w)) lent) × (left ≡ both_left (both_words (in_window verdict_on s f w)) lent)) e (q, r))
 
--- a try that was enough, and one that was refused
-pub tried_count : (s : List ℕ) (room : ℕ) (x : Result (List Entry)) (lent left : Both) (n : ℕ) → Tried s room x lent left (gives n)
-    → (gives n ≡ both_answer (both_words x) lent) × (left ≡ both_left (both_words x) lent)
-tried_count s room x lent left n w = ⊎_elim (λ y. absurd y.0) (λ y. y) w
-
-pub tried_other : (s : List ℕ) (room : ℕ) (x : Result (List Entry)) (lent left : Both) (k p : ℕ) → (k ≡ full → ⊥) → Tried s room x lent left (refuses k p)
-    → (refuses k p ≡ both_answer (both_words x) lent) × (left ≡ both_left (both_words x) lent)
-tried_other s room x lent left k p h w = ⊎_elim (λ y. absurd (h y.0)) (λ y. y) w
-
 -- a refusal leaves both as they were
 refused_left : (x : Result Both) (lent : Both) (k p : ℕ) → refuses k p ≡ both_answer x lent → both_left x lent ≡ lent
 refused_left (gives words) lent k p e = ap (λ (o : Result ℕ). written_by o words lent) (sym e)
 refused_left (refuses m q) lent k p e = refl
 
--- so that a second try begins as the first did
-pub tried_again : (s : List ℕ) (room : ℕ) (x : Result (List Entry)) (lent left last : Both) (k p : ℕ) (o : Result ℕ) → Tried s room x lent left (refuses k p)
-    → (o ≡ both_answer (both_words x) left) × (last ≡ both_left (both_words x) left) → (o ≡ both_answer (both_words x) lent) × (last ≡ both_left (both_words x) lent)
-tried_again s room x lent left last k p o w h =
-    let e : left ≡ lent = ⊎_elim (λ y. y.2) (λ y. y.1 ∙ refused_left (both_words x) lent k p y.0) w in
-    (h.0 ∙ ap (both_answer (both_words x)) e, h.1 ∙ ap (both_left (both_words x)) e)
+-- so that a try whose stacks were full leaves them so
+pub tried_same : (s : List ℕ) (room : ℕ) (x : Result (List Entry)) (lent left : Both) (o : Result ℕ) → Tried s room x lent left o → FullAnswer o → left ≡ lent
+tried_same s room x lent left (gives n) w h = absurd h
+tried_same s room x lent left (refuses k p) w h = ⊎_elim (λ y. y.2) (λ y. y.1 ∙ refused_left (both_words x) lent k p y.0) w
+
+-- and one whose stacks are long enough for every stream is the last
+pub tried_whole : (s : List ℕ) (room : ℕ) (x : Result (List Entry)) (lent left : Both) (o : Result ℕ) → length s ≤ room → Tried s room x lent left o
+    → (o ≡ both_answer (both_words x) lent) × (left ≡ both_left (both_words x) lent)
+tried_whole s room x lent left o b w = ⊎_elim (λ y. absurd (omega (arith, y.1, b))) (λ y. y) w
 
 -- what is counted by the reader's verdict, and so by every such judge
 module _ (s : List ℕ) (start len : ℕ) (f : Flags) (o : Result ℕ) where
@@ -204,10 +201,3 @@ count_tried s room x end sheet₀ sheet table₀ table (gives m) w =
     inr (ap gives c ∙ ap entry_count (sym y.holds))
 count_tried s room x end sheet₀ sheet table₀ table (refuses k p) w =
     ⊎_elim (λ y. inl (y.0, omega (arith, y.1))) (λ y. inr (ap entry_count (sym y))) w
-
--- the stacks are long enough for every stream, or for this one
-pub count_whole : (s : List ℕ) (room : ℕ) (x : Result (List Entry)) (o : Result ℕ) → length s ≤ room → CountTried s room x o → o ≡ entry_count x
-count_whole s room x o b w = ⊎_elim (λ y. absurd (omega (arith, y.1, b))) (λ y. y) w
-
-pub count_enough : (s : List ℕ) (room : ℕ) (x : Result (List Entry)) (o : Result ℕ) → (FullAnswer o → ⊥) → CountTried s room x o → o ≡ entry_count x
-count_enough s room x o h w = ⊎_elim (λ y. absurd (h y.0)) (λ y. y) w

@@ -1,15 +1,11 @@
 -- The numbers of a body's own tokens, and words by them. Assumes nothing.
 use mathlib.Core.Path.{◌≡◌, refl, sym, ap, ◌∙◌}
-use mathlib.Core.Bool.{Bool, true, false}
 use mathlib.Core.List.{List, [], ◌∷◌, ◌++◌, map}
 use Prim.Native.Nat.{ℕ, zero, suc, ◌+◌, ◌-◌, ◌≤◌, ◌<◌}
 use native.Mathlib.Decide.{dec_lt}
 use native.Mathlib.Omega.{arith}
-use borrow.Author.Tests.{ltb-true, ltb-false}
-use lib.Dec.{ltb}
 use lib.ListN.{length, get_or, take, drop, set, get_or-append, get_or-eq_default, length-append, length-map, length-drop, get_or-map}
 use lib.Seq.{sets, get_or-take, get_or_at, length-take-le, drop-cons}
-use Rattle.cursor.specs.Answer.{pick}
 use Rattle.cursor.proofs.Units.{tail}
 use Rattle.nest.specs.Nested.{renumbered}
 use Rattle.nest.specs.Pieces.{numbers_to, set_at}
@@ -94,14 +90,6 @@ renumbered_is numbers (suc i) m h e =
     let j : suc i - 1 ≡ i = omega arith in
     let q : m ≡ get_or numbers i 0 = e ∙ ap (λ (k : ℕ). get_or numbers k 0) j in
     omega (arith, q)
-
--- the lesser of two
-pub least : (a b r : ℕ) → r ≡ pick (ltb b a) b a → (r ≤ a) × (r ≤ b)
-least a b r e = by (ltb b a) refl e
-  where
-    by : (t : Bool) → ltb b a ≡ t → r ≡ pick t b a → (r ≤ a) × (r ≤ b)
-    by true h e = (omega (arith, e, ltb-true b a h), omega (arith, e))
-    by false h e = (omega (arith, e), omega (arith, e, ltb-false b a h))
 
 -- how long the end of a slice is
 pub part_length : (s : List ℕ) (at : ℕ) → length (take (length s - at) (drop at s)) ≡ length s - at

@@ -2,6 +2,10 @@
 //
 // Two stacks hold what the grammar reads of a body's own tokens, and their numbers: an inner body is pushed, judged and popped, so that each
 // body's own tokens stand together.
+//
+// The stacks and buffers are handed on one by one: of a struct that holds the three stacks, the borrow checker does not cover that a rest of
+// each is lent to the walk in a value. What a window is read by (s, end, flags, left) goes to `walk`, `next` and `run` alone, so that a struct
+// of it would be no shorter. And the loops are by hand: each step goes on where the one before has read to.
 ghost use Rattle.std.specs.Prelude.{◌≡◌, Bool, true, false, ◌&&◌, ◌∷◌, [], map, ◌+◌, ◌-◌, ◌*◌, ◌≤◌, ◌<◌, ltb, length, get_or, take, set};
 ghost use Rattle.std.proofs.lemmas.List.Edits.{sets};
 ghost use Rattle.cursor.specs.Answer.{refuses, pick};
@@ -10,10 +14,10 @@ ghost use Rattle.sheet.specs.Sheet.{mark_of};
 ghost use Rattle.body.specs.Reader.{verdict_on};
 ghost use Rattle.nest.specs.Nested.{past_value, deepest_body, inner_flags, words_at, renumbered};
 ghost use Rattle.nest.specs.Going.{Near, Stopped, Passed, Meets};
-ghost use Rattle.nest.specs.Pieces.{full, last_of, instance_token, full_event, token_event, began_event, held_event, set_at, numbers_to, verdict_answer, VerdictLaid, Numbered, WalkRead, window_by};
+ghost use Rattle.nest.specs.Pieces.{last_of, instance_token, token_event, began_event, held_event, set_at, numbers_to, verdict_answer, VerdictLaid, Numbered, WalkRead, window_by};
 
 use cursor::{Counted, Refusal};
-use tokens::{Flags, Held, Instance, NextValue, Sight, Token, Values};
+use tokens::{Flags, Held, Instance, Sight, Token, Values};
 use value::Kind;
 
 // Not a refusal of document 01: the stacks are full.
@@ -93,7 +97,7 @@ pub(crate) fn walk(
                 place = on;
             }
             Event::Body(back, at, size) => {
-                match walk(
+                n = walk(
                     s,
                     at,
                     at + size,
@@ -106,13 +110,8 @@ pub(crate) fn walk(
                     words,
                     sheet,
                     table,
-                ) {
-                    Counted::Count(m) => {
-                        n = m;
-                        place = back;
-                    }
-                    Counted::Refused(r) => return Counted::Refused(r),
-                }
+                )?;
+                place = back;
             }
             Event::Ended(after, t) => {
                 put_words(sheet, own, left, t);
@@ -122,7 +121,7 @@ pub(crate) fn walk(
             Event::Over(last) => return closed(
                 start, end, inside, last, k, n, marks, numbers, words, table,
             ),
-            Event::Refused(r) => return Counted::Refused(r),
+            Event::Refused(r) => return Err(r),
         }
     }
 }
@@ -157,8 +156,8 @@ fn next(
         Place::Between(at) => run(s, at, end, flags, left, n, k, marks, numbers, sheet),
         Place::Inside(at, values) => Stop {
             event: among(s, at, values, left),
-            n: n,
-            k: k,
+            n,
+            k,
         },
     }
 }
@@ -185,10 +184,10 @@ fn run(
     let mut here = at;
     let ahead = n - k;
     let mut i = k;
-    let room = lesser(marks.len(), span(ahead, sheet.len() / 2));
+    let room = marks.len().min((sheet.len() / 2).saturating_sub(ahead));
     loop {
         match tokens::look(s, here, end, flags) {
-            Sight::Token(t, c) => {
+            Ok((Sight::Token(t), c)) => {
                 if room <= i {
                     return Stop {
                         event: placed(Place::Between(c.at), t, i < marks.len()),
@@ -200,33 +199,24 @@ fn run(
                 here = c.at;
                 i += 1;
             }
-            Sight::Instance(x, c) => return Stop {
+            Ok((Sight::Instance(x), c)) => return Stop {
                 event: began(here, x, c.at, i < marks.len()),
                 n: ahead + i,
                 k: i,
             },
-            Sight::Header(c) => here = c.at,
-            Sight::Over(c) => return Stop {
+            Ok((Sight::Header, c)) => here = c.at,
+            Ok((Sight::Over, c)) => return Stop {
                 event: Event::Over(Place::Between(c.at)),
                 n: ahead + i,
                 k: i,
             },
-            Sight::Refused(r) => return Stop {
+            Err(r) => return Stop {
                 event: Event::Refused(r),
                 n: ahead + i,
                 k: i,
             },
         }
     }
-}
-
-fn lesser(a: usize, b: usize) -> usize
-    ensures { result ≡ pick (ltb b a) b a }
-{
-    if b < a {
-        return b;
-    }
-    a
 }
 
 // An instance's head, from its place to `next`: its token so far.
@@ -247,12 +237,6 @@ fn placed(to: Place, t: Token, room: bool) -> Event
     if room {
         return Event::Token(to, t);
     }
-    no_place()
-}
-
-fn no_place() -> Event
-    ensures { result ≡ full_event }
-{
     Event::Refused(Refusal {
         number: FULL,
         place: 0,
@@ -267,17 +251,14 @@ fn among(s: &[u8], at: usize, values: Values, left: u64) -> Event
     let mut here = values;
     loop {
         match here.next(s) {
-            NextValue::Value(v, size, rest) => {
+            Ok(Some((v, size, rest))) => {
                 if v.code == Kind::BIN_XML {
                     return held(v.code, v.start, size, Place::Inside(at, rest), left);
                 }
                 here = rest;
             }
-            NextValue::Done => return Event::Ended(
-                Place::Between(here.at),
-                instance_token(at, here.at),
-            ),
-            NextValue::Refused(r) => return Event::Refused(r),
+            Ok(None) => return Event::Ended(Place::Between(here.at), instance_token(at, here.at)),
+            Err(r) => return Event::Refused(r),
         }
     }
 }
@@ -303,8 +284,8 @@ fn instance_token(place: usize, next: usize) -> Token
     ensures { result ≡ instance_token place next }
 {
     Token {
-        place: place,
-        len: span(place, next),
+        place,
+        len: next.saturating_sub(place),
         kind: Token::INSTANCE,
         number: 0,
         flag: false,
@@ -312,15 +293,6 @@ fn instance_token(place: usize, next: usize) -> Token
         name: 0,
         held: Held::Nothing,
     }
-}
-
-fn span(place: usize, next: usize) -> usize
-    ensures { result ≡ next - place }
-{
-    if next < place {
-        return 0;
-    }
-    next - place
 }
 
 // Token n, the body's own k-th: its mark and its number on the stacks, and its words in the sheet.
@@ -390,22 +362,15 @@ fn put_both(sheet: &mut [u64], n: usize, first: u64, second: u64)
         sheet[at + 1] = second;
         return;
     }
-    put_word(sheet, at, first);
+    put(sheet, at, first);
 }
 
-fn put_word(sheet: &mut [u64], at: usize, word: u64)
-    ensures { sheet.new ≡ set sheet.old at word }
+// A word at its place in a buffer, where that has room for it.
+fn put<T: Copy>(buffer: &mut [T], at: usize, word: T)
+    ensures { buffer.new ≡ set buffer.old at word }
 {
-    if at < sheet.len() {
-        sheet[at] = word;
-    }
-}
-
-fn put_owner(table: &mut [u32], at: usize, word: u32)
-    ensures { table.new ≡ set table.old at word }
-{
-    if at < table.len() {
-        table[at] = word;
+    if at < buffer.len() {
+        buffer[at] = word;
     }
 }
 
@@ -429,10 +394,7 @@ fn closed(
     ensures verdict_laid { (inside && ltb end (last_of last)) ≡ false → VerdictLaid (take k numbers.now) (numbers_to k n numbers.now) (verdict_on (take k marks.now)) table.old table.new }
 {
     if past(inside, end, last) {
-        return Counted::Refused(Refusal {
-            number: PAST_VALUE,
-            place: start,
-        });
+        return cursor::refuse(PAST_VALUE, start);
     }
     judged(k, n, marks, numbers, words, table)
 }
@@ -451,10 +413,7 @@ fn position(place: Place) -> usize
 fn past(inside: bool, end: usize, last: Place) -> bool
     ensures { result ≡ (inside && ltb end (last_of last)) }
 {
-    if inside {
-        return end < position(last);
-    }
-    false
+    inside && end < position(last)
 }
 
 // The grammar's verdict on a body's own tokens, and their owners, numbered through. (What a refusal leaves in the table nobody reads.)
@@ -485,8 +444,8 @@ fn judged_alone(k: usize, n: usize, marks: &[u8], numbers: &[u32], table: &mut [
     ensures verdict_laid { VerdictLaid (take k numbers.now) (numbers_to k n numbers.now) (verdict_on (take k marks.now)) table.old table.new }
 {
     match body::judge(&marks[..k], table) {
-        Counted::Count(_) => Counted::Count(n),
-        Counted::Refused(r) => refused_at(numbers, k, n, r),
+        Ok(_) => Ok(n),
+        Err(r) => refused_at(numbers, k, n, r),
     }
 }
 
@@ -504,11 +463,11 @@ fn judged_among(
     ensures verdict_laid { VerdictLaid (take k numbers.now) (numbers_to k n numbers.now) (verdict_on (take k marks.now)) table.old table.new }
 {
     match body::judge(&marks[..k], words) {
-        Counted::Count(_) => {
+        Ok(_) => {
             lay(numbers, k, n, words, table);
-            Counted::Count(n)
+            Ok(n)
         }
-        Counted::Refused(r) => refused_at(numbers, k, n, r),
+        Err(r) => refused_at(numbers, k, n, r),
     }
 }
 
@@ -518,10 +477,7 @@ fn refused_at(numbers: &[u32], k: usize, n: usize, r: Refusal) -> Counted
     requires numbered { Numbered numbers.now k n }
     ensures { count_answer result ≡ refuses r.number (get_or (numbers_to k n numbers.now) r.place 0) }
 {
-    Counted::Refused(Refusal {
-        number: r.number,
-        place: number_of(numbers, k, n, r.place),
-    })
+    cursor::refuse(r.number, number_of(numbers, k, n, r.place))
 }
 
 // The owners of a body's own tokens, each at its number.
@@ -530,10 +486,12 @@ fn lay(numbers: &[u32], k: usize, n: usize, words: &[u32], table: &mut [u32])
     requires numbered { Numbered numbers.now k n }
     ensures { table.new ≡ set_at (take k numbers.now) (map (renumbered (numbers_to k n numbers.now)) (take k words.now)) table.old }
 {
-    let mut i: usize = 0;
-    while i < k {
-        put_owner(table, wide(numbers[i]), renumbered(numbers, k, n, words[i]));
-        i += 1;
+    for i in 0..k {
+        put(
+            table,
+            numbers[i] as usize,
+            renumbered(numbers, k, n, words[i]),
+        );
     }
 }
 
@@ -555,25 +513,10 @@ fn number_of(numbers: &[u32], k: usize, n: usize, i: usize) -> usize
     ensures { (result ≡ get_or (numbers_to k n numbers.now) i 0) × (result ≤ 65536) }
 {
     if i < k {
-        return wide(numbers[i]);
+        return numbers[i] as usize;
     }
     if i == k {
         return n;
     }
     0
-}
-
-fn wide(number: u32) -> usize
-    ensures { result ≡ number }
-{
-    number as usize
-}
-
-pub(crate) fn full() -> Counted
-    ensures { count_answer result ≡ refuses full 0 }
-{
-    Counted::Refused(Refusal {
-        number: FULL,
-        place: 0,
-    })
 }

@@ -56,23 +56,24 @@ module _ (t : List ℕ) (i : ℕ) {out lent : List ℕ} {end at : ℕ} where
   unfolding put
   text_all h w = record { is = sym (ap (λ (l : List ℕ). put l (page out end)) (ap (λ (k : ℕ). drop k t) h ∙ drop-length t)) ∙ w.is }
 
--- what each number of a list is written as
-module _ (f : ℕ → List ℕ) (ns : List ℕ) (i : ℕ) {out lent : List ℕ} {end at : ℕ} where
-  pub each_next : {next : List ℕ} {m : ℕ} → i < length ns → Puts (f (get_or ns i 0)) out end next m → Left (each f (drop i ns)) out end (each f ns) lent at
-      → Left (each f (drop (i + 1) ns)) next m (each f ns) lent at
+-- what each member of a list is written as
+module _ {A : Type 0} (f : A → List ℕ) (xs : List A) (i : ℕ) {out lent : List ℕ} {end at : ℕ} where
+  pub each_next : {x : A} {next : List ℕ} {m : ℕ} → i < length xs → x ≡ get_or xs i x → Puts (f x) out end next m
+      → Left (each f (drop i xs)) out end (each f xs) lent at → Left (each f (drop (i + 1) xs)) next m (each f xs) lent at
   unfolding each
-  each_next {next} {m} h e w =
+  each_next {x} {next} {m} h is e w =
       let n : i + 1 ≡ suc i = omega arith in
+      let c : drop i xs ≡ x ∷ drop (suc i) xs = drop-cons xs i x h ∙ ap (λ (y : A). y ∷ drop (suc i) xs) (sym is) in
       record {
         is =
-            ap (λ (k : ℕ). put (each f (drop k ns)) (page next m)) n ∙ ap (put (each f (drop (suc i) ns))) e.is
-            ∙ sym (put_append (f (get_or ns i 0)) (each f (drop (suc i) ns)) (page out end))
-            ∙ sym (ap (λ (l : List ℕ). put (each f l) (page out end)) (drop-cons ns i 0 h)) ∙ w.is;
+            ap (λ (k : ℕ). put (each f (drop k xs)) (page next m)) n ∙ ap (put (each f (drop (suc i) xs))) e.is
+            ∙ sym (put_append (f x) (each f (drop (suc i) xs)) (page out end))
+            ∙ sym (ap (λ (l : List A). put (each f l) (page out end)) c) ∙ w.is;
       }
 
-  pub each_all : i ≡ length ns → Left (each f (drop i ns)) out end (each f ns) lent at → Puts (each f ns) lent at out end
+  pub each_all : i ≡ length xs → Left (each f (drop i xs)) out end (each f xs) lent at → Puts (each f xs) lent at out end
   unfolding put each
-  each_all h w = record { is = sym (ap (λ (l : List ℕ). put (each f l) (page out end)) (ap (λ (k : ℕ). drop k ns) h ∙ drop-length ns)) ∙ w.is }
+  each_all h w = record { is = sym (ap (λ (l : List A). put (each f l) (page out end)) (ap (λ (k : ℕ). drop k xs) h ∙ drop-length xs)) ∙ w.is }
 
 -- the same text under another name
 pub put_as : {t u lent left : List ℕ} {at end : ℕ} → t ≡ u → Puts t lent at left end → Puts u lent at left end

@@ -1,22 +1,16 @@
 -- The digits of a number, written from the last to the first. Assumes nothing.
 use mathlib.Core.Path.{◌≡◌, refl, sym, ap, ◌∙◌}
-use mathlib.Core.List.{List, [], ◌∷◌, ◌++◌, append-nil, append_assoc}
+use mathlib.Core.List.{List, [], ◌∷◌, ◌++◌, append_assoc}
 use Prim.Native.Nat.{ℕ, zero, suc, ◌+◌, ◌-◌, ◌/◌, ◌%◌, ◌≤◌, ◌<◌}
 use native.Mathlib.Omega.{arith}
 use borrow.Author.Tests.{lt-ltb, le-ltb}
 use lib.ListN.{length, take, drop, set, length-drop}
-use lib.Seq.{drop-length, set_split, drop_at, take_all, length-take-le}
+use lib.Seq.{set_split, drop_at, take_all, length-take-le}
 use Rattle.print.specs.Text.{ascii, digit, decimal_in, each, hex_byte, hex_of}
 
 -- a digit stands before those that were written
 stored : (digits : List ℕ) (i b : ℕ) → i < length digits → drop i (set digits i b) ≡ b ∷ drop (suc i) digits
 stored digits i b h = ap (drop i) (set_split digits i b h) ∙ drop_at (take i digits) (b ∷ drop (suc i) digits) i (length-take-le i digits (omega arith))
-
--- nothing is written yet
-pub spell_none : (digits : List ℕ) (n i : ℕ) → i ≡ length digits → decimal_in i n ++ drop i digits ≡ decimal_in (length digits) n
-spell_none digits n i e =
-    ap (λ (k : ℕ). decimal_in k n ++ drop k digits) e ∙ ap (λ (l : List ℕ). decimal_in (length digits) n ++ l) (drop-length digits)
-    ∙ append-nil (decimal_in (length digits) n)
 
 module _ (digits whole : List ℕ) (i n b : ℕ) (h : i < length digits) (w : decimal_in (suc i) n ++ drop (suc i) digits ≡ whole) where
   -- the first digit of the number

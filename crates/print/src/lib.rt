@@ -1,8 +1,10 @@
 // Text in a lent buffer, for the programs. Each function puts something behind what is there and answers how full the buffer is then. A
 // byte that has no room is left out: a buffer that comes back full may have lost something.
+//
+// Digits are written here and not by std's formatting, since the contracts say of each byte whether it had room.
 #![tactic(auto)]
 
-ghost use Rattle.std.specs.Prelude.{◌≡◌, ◌∷◌, [], ◌++◌, ◌<◌, ◌≤◌, length, drop};
+ghost use Rattle.std.specs.Prelude.{◌≡◌, ℕ, List, ◌∷◌, [], ◌++◌, ◌<◌, ◌≤◌, length, drop};
 ghost use Rattle.print.specs.Text.{ascii, Puts, each, digit as Text·digit, decimal_in, decimal_of, spaced_number, hex_byte, hex_half, hex_word, hex_of, spaced_half, spaced_word, line_of, refused_of};
 
 use cursor::Refusal;
@@ -21,8 +23,8 @@ pub fn text(out: &mut [u8], at: usize, t: &[u8]) -> usize
     ensures { Puts t.now out.old at out.new result }
 {
     let mut end = at;
-    for i in 0..t.len() {
-        end = byte(out, end, t[i]);
+    for b in t {
+        end = byte(out, end, *b);
     }
     end
 }
@@ -41,17 +43,15 @@ fn spell(n: u64, digits: &mut [u8]) -> usize
     ensures digits_after { drop result digits.new ≡ decimal_in (length digits.old) n }
     ensures upper_bound { result ≤ length digits.new }
 {
-    let mut i = digits.len();
     let mut rest = n;
-    while 0 < i {
-        i -= 1;
+    for i in (0..digits.len()).rev() {
         digits[i] = digit((rest % 10) as u8);
         if rest < 10 {
-            break;
+            return i;
         }
         rest /= 10;
     }
-    i
+    0
 }
 
 fn digit(n: u8) -> u8
@@ -101,66 +101,99 @@ pub fn hex(out: &mut [u8], at: usize, bytes: &[u8]) -> usize
     if bytes.len() == 0 {
         return byte(out, at, b'-');
     }
-    hex_bytes(out, at, bytes)
-}
-
-fn hex_bytes(out: &mut [u8], at: usize, bytes: &[u8]) -> usize
-    ensures { Puts (each hex_byte bytes.now) out.old at out.new result }
-{
-    let mut end = at;
-    for i in 0..bytes.len() {
-        end = hex_byte(out, end, bytes[i]);
-    }
-    end
+    members::<u8, InHex>(out, at, bytes)
 }
 
 // Numbers, each after a space: of eight bytes, of four; and the same in hexadecimal.
 pub fn numbers(out: &mut [u8], at: usize, list: &[u64]) -> usize
     ensures { Puts (each spaced_number list.now) out.old at out.new result }
 {
-    let mut end = at;
-    for i in 0..list.len() {
-        end = number(out, end, list[i]);
-    }
-    end
+    members::<u64, InDecimal>(out, at, list)
 }
 
 pub fn halves(out: &mut [u8], at: usize, list: &[u32]) -> usize
     ensures { Puts (each spaced_number list.now) out.old at out.new result }
 {
-    let mut end = at;
-    for i in 0..list.len() {
-        end = half(out, end, list[i]);
-    }
-    end
-}
-
-fn half(out: &mut [u8], at: usize, n: u32) -> usize
-    ensures { Puts (spaced_number n) out.old at out.new result }
-{
-    number(out, at, n as u64)
+    members::<u32, InDecimal>(out, at, list)
 }
 
 pub fn hex_words(out: &mut [u8], at: usize, list: &[u64]) -> usize
     ensures { Puts (each spaced_word list.now) out.old at out.new result }
 {
-    let mut end = at;
-    for i in 0..list.len() {
-        let after = byte(out, end, b' ');
-        end = hex_word(out, after, list[i]);
-    }
-    end
+    members::<u64, InHex>(out, at, list)
 }
 
 pub fn hex_halves(out: &mut [u8], at: usize, list: &[u32]) -> usize
     ensures { Puts (each spaced_half list.now) out.old at out.new result }
 {
+    members::<u32, InHex>(out, at, list)
+}
+
+// How a member of a list is written.
+trait Form<T> {
+    ghost text: { T → List ℕ };
+
+    fn put(out: &mut [u8], at: usize, n: T) -> usize
+        ensures { Puts (text n) out.old at out.new result };
+}
+
+// A list's members, one after the other.
+fn members<T: Copy, F: Form<T>>(out: &mut [u8], at: usize, list: &[T]) -> usize
+    ensures { Puts (each F.text list.now) out.old at out.new result }
+{
     let mut end = at;
-    for i in 0..list.len() {
-        let after = byte(out, end, b' ');
-        end = hex_half(out, after, list[i]);
+    for n in list {
+        end = F::put(out, end, *n);
     }
     end
+}
+
+// A number in decimal, after a space.
+struct InDecimal;
+
+impl Form<u64> for InDecimal {
+    ghost text = { spaced_number };
+
+    fn put(out: &mut [u8], at: usize, n: u64) -> usize {
+        number(out, at, n)
+    }
+}
+
+impl Form<u32> for InDecimal {
+    ghost text = { spaced_number };
+
+    fn put(out: &mut [u8], at: usize, n: u32) -> usize {
+        number(out, at, u64::from(n))
+    }
+}
+
+// In hexadecimal: a byte, and a number after a space.
+struct InHex;
+
+impl Form<u8> for InHex {
+    ghost text = { hex_byte };
+
+    fn put(out: &mut [u8], at: usize, n: u8) -> usize {
+        hex_byte(out, at, n)
+    }
+}
+
+impl Form<u32> for InHex {
+    ghost text = { spaced_half };
+
+    fn put(out: &mut [u8], at: usize, n: u32) -> usize {
+        let digits = byte(out, at, b' ');
+        hex_half(out, digits, n)
+    }
+}
+
+impl Form<u64> for InHex {
+    ghost text = { spaced_word };
+
+    fn put(out: &mut [u8], at: usize, n: u64) -> usize {
+        let digits = byte(out, at, b' ');
+        hex_word(out, digits, n)
+    }
 }
 
 // A line: a word and numbers.
@@ -175,6 +208,6 @@ pub fn line(out: &mut [u8], at: usize, word: &[u8], list: &[u64]) -> usize
 pub fn refused(out: &mut [u8], at: usize, r: Refusal) -> usize
     ensures { Puts (refused_of r) out.old at out.new result }
 {
-    let list = [r.number as u64, r.place as u64];
+    let list = [u64::from(r.number), r.place as u64];
     line(out, at, b"refused", &list)
 }

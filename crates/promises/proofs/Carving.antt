@@ -1,5 +1,6 @@
 -- Carving stays in its range: a run from a state with a carve range is carved records within it, and then a run from the same place with
 -- the range used up. Assumes nothing.
+use Rattle.std.specs.Prelude.{Some, None, Option}
 use mathlib.Core.Path.{◌≡◌, refl, sym, ap, subst, ◌∙◌}
 use mathlib.Core.Logic.{◌⊎◌, inl, inr, ⊎_elim}
 use mathlib.Core.Bool.{Bool, true}
@@ -17,8 +18,6 @@ use Rattle.record.specs.declared.Record.{Record}
 use Rattle.record.proofs.Within.{strict_inside}
 use Rattle.search.specs.Least.{Least}
 use Rattle.search.specs.Allowed.{reads, carvable}
-use Rattle.search.specs.declared.Found.{Found}
-use Rattle.search.specs.declared.Found.TheVariants as F
 use Rattle.search.proofs.Magics.{and_true}
 use Rattle.chunk.specs.Walk.{Choose, Reply, live, carved, refused_with, TurnEnd, answered, going_on, Carves, Turns, Goes, answers, goes_on, Steps, StepsOn, WalkTurn, carved_at, after_carve, used_up}
 use Rattle.chunk.specs.Listing.{Runs}
@@ -74,9 +73,9 @@ module _ (s : List ℕ) where
       }
   carved_by w x k l (refused m c) e y f = absurd (answers_not _ x (sym f))
 
-  carve_by : (w : Walk) (x : Walk × Maybe Reply) (f : Found) → Least (carvable s w.to) w.from f → answered x ≡ after_carve s w f → CarvedOne w x
-  carve_by w x (F.At k) m e = carved_by w x k m.0 (strict_at s k) refl (and_true (leb (k + 4) w.to) _ m.1).1 e
-  carve_by w x F.Nothing m e = absurd (answers_not _ x (sym e))
+  carve_by : (w : Walk) (x : Walk × Maybe Reply) (f : Option ℕ) → Least (carvable s w.to) w.from f → answered x ≡ after_carve s w f → CarvedOne w x
+  carve_by w x (Some k) m e = carved_by w x k m.0 (strict_at s k) refl (and_true (leb (k + 4) w.to) _ m.1).1 e
+  carve_by w x None m e = absurd (answers_not _ x (sym e))
 
   module _ (h : Fields) where
     -- while the range stands a turn is a carve

@@ -1,5 +1,6 @@
 -- Damage stays in its range: of two chunks with the same header fields that are damaged at the same offset, resume at the same resync offset
 -- and are equal from there on, the walks answer the same after the damage, but for records carved from the range between. Assumes nothing.
+use Rattle.std.specs.Prelude.{Some, None, Option}
 use mathlib.Core.Path.{◌≡◌, refl, sym, ap, subst, ◌∙◌}
 use mathlib.Core.Bool.{Bool, true, false}
 use mathlib.Core.List.{List, [], ◌∷◌, ◌++◌}
@@ -17,14 +18,10 @@ use Rattle.record.specs.declared.Record.{Record}
 use Rattle.record.proofs.Within.{headed}
 use Rattle.search.specs.Least.{Least}
 use Rattle.search.specs.Allowed.{live_end, is_live, resyncable}
-use Rattle.search.specs.declared.Found.{Found}
-use Rattle.search.specs.declared.Found.TheVariants as F
 use Rattle.search.proofs.Leasts.{one}
 use Rattle.search.proofs.Suited.{stands}
 use Rattle.chunk.specs.Walk.{Choose, Reply, live, carved, refused_with, start_of, TurnEnd, answered, going_on, Carves, Turns, Goes, answers, goes_on, WalkTurn, ReadTurn, carved_at, after_carve, after_refusal, after_live, skip_to, used_up, silent, found_answer, ResyncOn, ResyncAfter}
 use Rattle.chunk.specs.Listing.{Runs}
-use Rattle.chunk.specs.declared.Place.{Place}
-use Rattle.chunk.specs.declared.Place.TheVariants as P
 use Rattle.chunk.specs.declared.Walk.{Walk}
 use Rattle.chunk.proofs.Order.{Past, low_place}
 use Rattle.chunk.proofs.Whole.{step_goes}
@@ -56,10 +53,10 @@ keeps_on w v u a b =
 keeps_stands : (w v : Walk) → w.from < w.to → v.recover ≡ w.recover → RangeKept w v
 keeps_stands w v l e = record { mode = e; range = λ f k. absurd (omega arith) }
 
-skip_keeps : (w : Walk) (p : ℕ) (f : Found) → RangeKept w (skip_to w p f)
-skip_keeps w p (F.At q) =
+skip_keeps : (w : Walk) (p : ℕ) (f : Option ℕ) → RangeKept w (skip_to w p f)
+skip_keeps w p (Some q) =
     record { mode = refl; range = λ e l. (ap (λ (b : Bool). pick b p w.from) e, ap (λ (b : Bool). pick b q w.to) e) }
-skip_keeps w p F.Nothing =
+skip_keeps w p None =
     record { mode = refl; range = λ e l. (ap (λ (b : Bool). pick b p w.from) e, ap (λ (b : Bool). pick b 65536 w.to) e) }
 
 -- the state that a turn leaves
@@ -72,16 +69,16 @@ module _ (s : List ℕ) (h : Fields) where
   carved_keeps w l (given r n) = keeps_stands w _ l refl
   carved_keeps w l (refused k c) = keeps_stands w _ l refl
 
-  carve_keeps : (w : Walk) → w.from < w.to → (f : Found) → RangeKept w (leaves (after_carve s w f))
-  carve_keeps w l (F.At o) = carved_keeps w l (strict_at s o)
-  carve_keeps w l F.Nothing = keeps_stands w _ l refl
+  carve_keeps : (w : Walk) → w.from < w.to → (f : Option ℕ) → RangeKept w (leaves (after_carve s w f))
+  carve_keeps w l (Some o) = carved_keeps w l (strict_at s o)
+  carve_keeps w l None = keeps_stands w _ l refl
 
   live_keeps : (w : Walk) (r : Record) (n : ℕ) → RangeKept w (after_live h w r n)
   live_keeps w r n =
       either (RangeKept w) (eqb r.id h.ids.last) _ _
-      (λ e. skip_keeps w n F.Nothing) (λ e. record { mode = refl; range = λ f l. (refl, refl) })
+      (λ e. skip_keeps w n None) (λ e. record { mode = refl; range = λ f l. (refl, refl) })
 
-  refusal_keeps : (w : Walk) (p k c : ℕ) (f : Found) → RangeKept w (leaves (after_refusal s w p k c f))
+  refusal_keeps : (w : Walk) (p k c : ℕ) (f : Option ℕ) → RangeKept w (leaves (after_refusal s w p k c f))
   refusal_keeps w p k c f =
       either (λ (u : TurnEnd). RangeKept w (leaves u)) (silent s p k f) _ _ (λ e. skip_keeps w p f) (λ e. skip_keeps w p f)
 
@@ -89,13 +86,13 @@ module _ (s : List ℕ) (h : Fields) where
   read_keeps w p u (given r n) e = subst (λ (z : TurnEnd). RangeKept w (leaves z)) (sym e) (live_keeps w r n)
   read_keeps w p u (refused k c) e = subst (λ (z : TurnEnd). RangeKept w (leaves z)) (sym e.is) (refusal_keeps w p k c e.found)
 
-  at_keeps : (w : Walk) (p : ℕ) (u : TurnEnd) (b : Bool) → Choose b (u ≡ going_on (skip_to w p F.Nothing)) (ReadTurn s h w p (plain_at s p) u) → RangeKept w (leaves u)
-  at_keeps w p u true e = subst (λ (z : TurnEnd). RangeKept w (leaves z)) (sym e) (skip_keeps w p F.Nothing)
+  at_keeps : (w : Walk) (p : ℕ) (u : TurnEnd) (b : Bool) → Choose b (u ≡ going_on (skip_to w p None)) (ReadTurn s h w p (plain_at s p) u) → RangeKept w (leaves u)
+  at_keeps w p u true e = subst (λ (z : TurnEnd). RangeKept w (leaves z)) (sym e) (skip_keeps w p None)
   at_keeps w p u false e = read_keeps w p u (plain_at s p) e
 
-  walk_keeps : (w : Walk) (u : TurnEnd) (place : Place) → WalkTurn s h w place u → RangeKept w (leaves u)
-  walk_keeps w u (P.At p) e = at_keeps w p u (leb (live_end h) p) e
-  walk_keeps w u P.Over e = subst (λ (z : TurnEnd). RangeKept w (leaves z)) (sym e) (keeps_same w)
+  walk_keeps : (w : Walk) (u : TurnEnd) (place : Option ℕ) → WalkTurn s h w place u → RangeKept w (leaves u)
+  walk_keeps w u (Some p) e = at_keeps w p u (leb (live_end h) p) e
+  walk_keeps w u None e = subst (λ (z : TurnEnd). RangeKept w (leaves z)) (sym e) (keeps_same w)
 
   turn_by : (w : Walk) (u : TurnEnd) (b : Bool) → ltb w.from w.to ≡ b → Choose b (Carves s w u) (WalkTurn s h w w.place u) → RangeKept w (leaves u)
   turn_by w u true e c =
@@ -111,35 +108,35 @@ module _ (s : List ℕ) (h : Fields) where
 
 -- the walk after a refusal at p, with the resync offset q: it stands there, and p to q is left to carve where recovery is on
 abbrev restarted : Bool → ℕ → ℕ → Walk
-restarted recover p q = record { place = P.At q; from = pick recover p 0; to = pick recover q 0; recover = recover }
+restarted recover p q = record { place = Some q; from = pick recover p 0; to = pick recover q 0; recover = recover }
 
 -- a state by its parts
-walk_path : (v : Walk) (place : Place) (from to : ℕ) (recover : Bool) → v.place ≡ place → v.from ≡ from → v.to ≡ to → v.recover ≡ recover
+walk_path : (v : Walk) (place : Option ℕ) (from to : ℕ) (recover : Bool) → v.place ≡ place → v.from ≡ from → v.to ≡ to → v.recover ≡ recover
     → v ≡ record { place = place; from = from; to = to; recover = recover }
 walk_path v place from to recover a b c d i = record { place = a i; from = b i; to = c i; recover = d i }
 
-restarts : (recover : Bool) (v w : Walk) (p q : ℕ) → RangeKept (start_of recover) v → v ≡ skip_to w p (F.At q) → v ≡ restarted recover p q
+restarts : (recover : Bool) (v w : Walk) (p q : ℕ) → RangeKept (start_of recover) v → v ≡ skip_to w p (Some q) → v ≡ restarted recover p q
 restarts true v w p q k e =
     let m : w.recover ≡ true = sym (ap (λ (z : Walk). z.recover) e) ∙ k.mode in
-    e ∙ ap (λ (b : Bool). record { place = P.At q; from = pick b p w.from; to = pick b q w.to; recover = b }) m
+    e ∙ ap (λ (b : Bool). record { place = Some q; from = pick b p w.from; to = pick b q w.to; recover = b }) m
 restarts false v w p q k e =
     let r = k.range refl (omega arith) in
-    walk_path v (P.At q) 0 0 false (ap (λ (z : Walk). z.place) e) r.0 r.1 k.mode
+    walk_path v (Some q) 0 0 false (ap (λ (z : Walk). z.place) e) r.0 r.1 k.mode
 
 -- the resync offset by itself
 module _ (s : List ℕ) (h : Fields) (p q : ℕ) where
-  at_q : (f : Found) → gives (just q) ≡ gives (found_answer f) → Least (resyncable s h) (p + 1) f → Least (resyncable s h) (p + 1) (F.At q)
-  at_q (F.At o) e m = let z : o ≡ q = cc in subst (λ (k : ℕ). Least (resyncable s h) (p + 1) (F.At k)) z m
-  at_q F.Nothing e m = let z : ◌≡◌ {A = ℕ} 0 1 = cc in absurd (omega arith)
+  at_q : (f : Option ℕ) → gives (just q) ≡ gives (found_answer f) → Least (resyncable s h) (p + 1) f → Least (resyncable s h) (p + 1) (Some q)
+  at_q (Some o) e m = let z : o ≡ q = cc in subst (λ (k : ℕ). Least (resyncable s h) (p + 1) (Some k)) z m
+  at_q None e m = let z : ◌≡◌ {A = ℕ} 0 1 = cc in absurd (omega arith)
 
-  resync_least : (n : ℕ) → fields_at s ≡ given h n → ResyncAfter s p (gives (just q)) → Least (resyncable s h) (p + 1) (F.At q)
+  resync_least : (n : ℕ) → fields_at s ≡ given h n → ResyncAfter s p (gives (just q)) → Least (resyncable s h) (p + 1) (Some q)
   resync_least n header r = let y = subst (ResyncOn s p (gives (just q))) header r in at_q y.0 y.1.0 y.1.1
 
 -- the run of a walk from its start: after its refusal at p the walk is that of the state above
-module _ (s : List ℕ) (h : Fields) (n : ℕ) (header : fields_at s ≡ given h n) (recover : Bool) (p q : ℕ) (least : Least (resyncable s h) (p + 1) (F.At q)) where
+module _ (s : List ℕ) (h : Fields) (n : ℕ) (header : fields_at s ≡ given h n) (recover : Bool) (p q : ℕ) (least : Least (resyncable s h) (p + 1) (Some q)) where
   from_refusal : (v : Walk) (after : List Reply) → RangeKept (start_of recover) v → Left s h v p → Runs s v after → Runs s (restarted recover p q) after
   from_refusal v after k left r =
-      let f = one (resyncable s h) (p + 1) left.found (F.At q) left.least least in
+      let f = one (resyncable s h) (p + 1) left.found (Some q) left.least least in
       let e = left.is ∙ ap (skip_to left.came p) f in
       subst (λ (z : Walk). Runs s z after) (restarts recover v left.came p q k e) r
 

@@ -1,4 +1,5 @@
 -- The walks of two chunks whose second record is damaged, computed; what they have in common, and what they have not. Assumes nothing.
+use Rattle.std.specs.declared.option.Option.TheVariants as O
 use mathlib.Core.Path.{◌≡◌, refl, sym, ap, subst, ◌∙◌}
 use mathlib.Core.Bool.{Bool, true, false}
 use mathlib.Core.List.{List, [], ◌∷◌}
@@ -18,13 +19,11 @@ use Rattle.record.specs.declared.Record.{Record}
 use Rattle.search.specs.Least.{None, Least}
 use Rattle.search.specs.Allowed.{is_live, reads, allowed, resyncable, carvable}
 use Rattle.search.specs.Search.{magic_at}
-use Rattle.search.specs.declared.Found.TheVariants as F
 use Rattle.search.proofs.Leasts.{join}
 use Rattle.search.proofs.Magics.{never}
 use Rattle.search.proofs.Suited.{none_allowed, none_past}
 use Rattle.chunk.specs.Walk.{Reply, live, carved, refused_with, start_of, answered, going_on, Turns, answers, goes_on, Steps, StepsOn, ReadTurn, carved_at, ResyncOn, ResyncAfter}
 use Rattle.chunk.specs.Listing.{Runs}
-use Rattle.chunk.specs.declared.Place.TheVariants as P
 use Rattle.chunk.specs.declared.Walk.{Walk}
 use Rattle.promises.specs.Damage.{Damaged, without_carved, SameRest}
 use Rattle.promises.specs.DamagedPair.{three_records, its_fields, without_magic, with_late_time, first_record, inner_record, last_record, after_magic, after_late_time, magic_answers, late_time_answers}
@@ -63,10 +62,10 @@ none_one t p e k a b f = let g : k ≡ p = omega arith in never (sym f ∙ ap t 
 
 -- a walk with recovery that stands at a place, or is over, and its range
 abbrev at : ℕ → ℕ → ℕ → Walk
-at place from to = record { place = P.At place; from = from; to = to; recover = true }
+at place from to = record { place = O.Some place; from = from; to = to; recover = true }
 
 abbrev over : ℕ → ℕ → Walk
-over from to = record { place = P.Over; from = from; to = to; recover = true }
+over from to = record { place = O.None; from = from; to = to; recover = true }
 
 -- what is asked of a record that is carved from a range
 abbrev ends_by : ℕ → Record → ℕ → Bool
@@ -116,18 +115,18 @@ module _ (rest : List ℕ) (zeros : (j : ℕ) → starts_with (drop j rest) reco
         ap (λ (n : ℕ). drop n s) (sym e) ∙ drop-append-add (three_records outer inner time []) rest (k - 624)
 
     -- nothing is carved after the last record
-    none_after : Least (carvable s 65536) 624 F.Nothing
+    none_after : Least (carvable s 65536) 624 O.None
     none_after =
         none_past s 65536 (ends_by 65536) 624 65533 (ap (min 65536) (sym long))
         (none_allowed s 65536 (ends_by 65536) 624 65533
         (λ k a b f. never (sym f ∙ ap (λ (d : List ℕ). starts_with d record_magic) (drop_rest k a) ∙ zeros (k - 624))))
 
     -- the walk resumes at the last record
-    resyncs_at : None (resyncable s its_fields) 541 596 → Least (resyncable s its_fields) 541 (F.At 596)
+    resyncs_at : None (resyncable s its_fields) 541 596 → Least (resyncable s its_fields) 541 (O.Some 596)
     resyncs_at none = (omega arith, ap (reads (is_live its_fields)) last_strict, none)
 
     resync_at : None (resyncable s its_fields) 541 596 → ResyncAfter s 540 (gives (just 596))
-    resync_at none = subst (ResyncOn s 540 (gives (just 596))) (sym header) (F.At 596, (refl, resyncs_at none))
+    resync_at none = subst (ResyncOn s 540 (gives (just 596))) (sym header) (O.Some 596, (refl, resyncs_at none))
 
     -- steps of one turn and of two
     one_turn : (w : Walk) (x : Walk × Maybe Reply) → Turns s its_fields w (answered x) → Steps s w x
@@ -146,13 +145,13 @@ module _ (rest : List ℕ) (zeros : (j : ℕ) → starts_with (drop j rest) reco
     refuse_second number e none =
         one_turn (at 540 0 0) (at 596 540 596, just (refused_with number 540))
         (subst (λ (a : Answer Record). ReadTurn s its_fields (at 540 0 0) 540 a (answered (at 596 540 596, just (refused_with number 540)))) (sym e)
-        (record { found = F.At 596; least = resyncs_at none; is = refl }))
+        (record { found = O.Some 596; least = resyncs_at none; is = refl }))
 
     -- a range that holds none any more is used up
-    range_used : (from : ℕ) → Least (carvable s 596) from F.Nothing → from < 596 → Turns s its_fields (at 596 from 596) (going_on (at 596 596 596))
-    range_used from none l = rw (lt-ltb from 596 l) (record { found = F.Nothing; least = none; is = refl })
+    range_used : (from : ℕ) → Least (carvable s 596) from O.None → from < 596 → Turns s its_fields (at 596 from 596) (going_on (at 596 596 596))
+    range_used from none l = rw (lt-ltb from 596 l) (record { found = O.None; least = none; is = refl })
 
-    none_left : (from : ℕ) → None (carvable s 596) from 593 → Least (carvable s 596) from F.Nothing
+    none_left : (from : ℕ) → None (carvable s 596) from 593 → Least (carvable s 596) from O.None
     none_left from none = none_past s 596 (ends_by 596) from 593 (ap (min 596) (sym long)) none
 
     -- then the last record is read, and the walk is over
@@ -160,7 +159,7 @@ module _ (rest : List ℕ) (zeros : (j : ℕ) → starts_with (drop j rest) reco
     unfolding Runs
     read_last from t =
         let lived = subst (λ (a : Answer Record). ReadTurn s its_fields (at 596 596 596) 596 a (answered (over 624 65536, just (live last_record)))) (sym last_read) refl in
-        let done : Turns s its_fields (over 624 65536) (going_on (over 65536 65536)) = record { found = F.Nothing; least = none_after; is = refl } in (
+        let done : Turns s its_fields (over 624 65536) (going_on (over 65536 65536)) = record { found = O.None; least = none_after; is = refl } in (
           over 624 65536,
           (
             two_turns (at 596 from 596) (at 596 596 596) (over 624 65536, just (live last_record)) t lived,
@@ -192,12 +191,12 @@ module _ (rest : List ℕ) (zeros : (j : ℕ) → starts_with (drop j rest) reco
   unfolding clean starts_with
   m_carve =
       record {
-        found = F.At 564;
+        found = O.Some 564;
         least = (omega arith, ap (reads (ends_by 596)) inner_strict, none_in 0 0x2A 0 596 (ends_by 596) 540 24 refl);
         is = ap (carved_at (at 596 540 596)) (sym inner_strict);
       }
 
-  m_left : Least (carvable m 596) 592 F.Nothing
+  m_left : Least (carvable m 596) 592 O.None
   unfolding clean starts_with
   m_left = none_left 0 0x2A 0 592 (none_in 0 0x2A 0 596 (ends_by 596) 592 1 refl)
 
@@ -228,7 +227,7 @@ module _ (rest : List ℕ) (zeros : (j : ℕ) → starts_with (drop j rest) reco
   unfolding strict_at
   l_not_strict = ap (λ (a : Answer Record). a then copied l) l_refused
 
-  l_left : Least (carvable l 596) 540 F.Nothing
+  l_left : Least (carvable l 596) 540 O.None
   unfolding clean starts_with
   l_left =
       none_left 0x2A 0 0xFF 540

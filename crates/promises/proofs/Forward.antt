@@ -1,5 +1,7 @@
 -- A walk reads forward only: where two chunks have the same header fields and the same bytes from q on, a run of the one from a state that
 -- has passed the bytes below q is a run of the other, and its records have the same payloads. Assumes nothing.
+use Rattle.std.specs.Prelude.{Some, None, Option}
+use Rattle.cursor.specs.declared.Refusal.{Refusal}
 use mathlib.Core.Path.{◌≡◌, refl, sym, ap, subst, ◌∙◌}
 use mathlib.Core.Bool.{Bool, true, false, ◌&&◌}
 use mathlib.Core.List.{List, [], ◌∷◌}
@@ -19,12 +21,8 @@ use Rattle.record.specs.declared.Record.{Record}
 use Rattle.record.proofs.Within.{inside}
 use Rattle.search.specs.Least.{Least}
 use Rattle.search.specs.Allowed.{live_end, reads, allowed, is_live, resyncable, carvable}
-use Rattle.search.specs.declared.Found.{Found}
-use Rattle.search.specs.declared.Found.TheVariants as F
 use Rattle.chunk.specs.Walk.{Choose, Reply, live, carved, refused_with, TurnEnd, answered, going_on, Carves, Resyncs, Turns, Goes, answers, goes_on, Steps, StepsOn, WalkTurn, ReadTurn, carved_at, after_carve, after_refusal, skip_to}
 use Rattle.chunk.specs.Listing.{Runs}
-use Rattle.chunk.specs.declared.Place.{Place}
-use Rattle.chunk.specs.declared.Place.TheVariants as P
 use Rattle.chunk.specs.declared.Walk.{Walk}
 use Rattle.chunk.proofs.Order.{place_low, low, low_stands, low_place, Past, Onward, onward, Handed}
 use Rattle.chunk.proofs.Whole.{step_goes, step_hands}
@@ -42,9 +40,9 @@ unfolding plain_at
 plain_on_lem s at = refl
 
 -- two tests that agree from q on have the same least from there
-least_from : (f g : ℕ → Bool) (q p : ℕ) → q ≤ p → ((k : ℕ) → q ≤ k → f k ≡ g k) → (x : Found) → Least f p x → Least g p x
-least_from f g q p l h (F.At o) m = (m.0, sym (h o (omega (arith, m.0))) ∙ m.1, λ k a b e. m.2 k a b (h k (omega arith) ∙ e))
-least_from f g q p l h F.Nothing m = λ k a e. m k a (h k (omega arith) ∙ e)
+least_from : (f g : ℕ → Bool) (q p : ℕ) → q ≤ p → ((k : ℕ) → q ≤ k → f k ≡ g k) → (x : Option ℕ) → Least f p x → Least g p x
+least_from f g q p l h (Some o) m = (m.0, sym (h o (omega (arith, m.0))) ∙ m.1, λ k a b e. m.2 k a b (h k (omega arith) ∙ e))
+least_from f g q p l h None m = λ k a e. m k a (h k (omega arith) ∙ e)
 
 -- a state that has passed the bytes below q goes on to such a state
 further : (s : List ℕ) (q : ℕ) (w next : Walk) → Past q w → Onward s w next → Past q next
@@ -91,9 +89,9 @@ module _ (s t : List ℕ) (q : ℕ) (long : length s ≡ length t) (same : drop 
       ∙ ap (λ (d : List ℕ). pick (leb least_size r.size) (pick (leb (r.offset + r.size) (length t)) (take (r.size - least_size) d) []) []) (drop_same (r.offset + 24) (omega arith))
 
   -- a turn
-  carve_same : (w : Walk) → q ≤ w.from → (f : Found) → Least (carvable s w.to) w.from f → after_carve s w f ≡ after_carve t w f
-  carve_same w l (F.At o) m = ap (carved_at w) (strict_same o (omega (arith, m.0)))
-  carve_same w l F.Nothing m = refl
+  carve_same : (w : Walk) → q ≤ w.from → (f : Option ℕ) → Least (carvable s w.to) w.from f → after_carve s w f ≡ after_carve t w f
+  carve_same w l (Some o) m = ap (carved_at w) (strict_same o (omega (arith, m.0)))
+  carve_same w l None m = refl
 
   carves_same : (w : Walk) (u : TurnEnd) → q ≤ w.from → Carves s w u → Carves t w u
   carves_same w u l c =
@@ -103,10 +101,10 @@ module _ (s t : List ℕ) (q : ℕ) (long : length s ≡ length t) (same : drop 
         is = c.is ∙ carve_same w l c.found c.least;
       }
 
-  refusal_same : (w : Walk) (p k c : ℕ) → q ≤ p → (f : Found) → after_refusal s w p k c f ≡ after_refusal t w p k c f
-  refusal_same w p k c l (F.At o) = refl
-  refusal_same w p k c l F.Nothing =
-      let over = skip_to w p F.Nothing in
+  refusal_same : (w : Walk) (p k c : ℕ) → q ≤ p → (f : Option ℕ) → after_refusal s w p k c f ≡ after_refusal t w p k c f
+  refusal_same w p k c l (Some o) = refl
+  refusal_same w p k c l None =
+      let over = skip_to w p None in
       ap (λ (d : List ℕ). pick (eqb k wrong_magic && starts_with d (0 ∷ 0 ∷ 0 ∷ 0 ∷ [])) (going_on over) (answered (over, just (refused_with k c)))) (drop_same p l)
 
   module _ (h : Fields) where
@@ -122,14 +120,14 @@ module _ (s t : List ℕ) (q : ℕ) (long : length s ≡ length t) (same : drop 
     read_same w p u (given r n) l e = e
     read_same w p u (refused k c) l e = resyncs_same w p k c u l e
 
-    at_same : (w : Walk) (p : ℕ) (u : TurnEnd) (b : Bool) → q ≤ p → Choose b (u ≡ going_on (skip_to w p F.Nothing)) (ReadTurn s h w p (plain_at s p) u)
-        → Choose b (u ≡ going_on (skip_to w p F.Nothing)) (ReadTurn t h w p (plain_at t p) u)
+    at_same : (w : Walk) (p : ℕ) (u : TurnEnd) (b : Bool) → q ≤ p → Choose b (u ≡ going_on (skip_to w p None)) (ReadTurn s h w p (plain_at s p) u)
+        → Choose b (u ≡ going_on (skip_to w p None)) (ReadTurn t h w p (plain_at t p) u)
     at_same w p u true l e = e
     at_same w p u false l e = subst (λ (a : Answer Record). ReadTurn t h w p a u) (plain_same p l) (read_same w p u (plain_at s p) l e)
 
-    walk_same : (w : Walk) (u : TurnEnd) (place : Place) → q ≤ place_low place → WalkTurn s h w place u → WalkTurn t h w place u
-    walk_same w u (P.At p) l e = at_same w p u (leb (live_end h) p) l e
-    walk_same w u P.Over l e = e
+    walk_same : (w : Walk) (u : TurnEnd) (place : Option ℕ) → q ≤ place_low place → WalkTurn s h w place u → WalkTurn t h w place u
+    walk_same w u (Some p) l e = at_same w p u (leb (live_end h) p) l e
+    walk_same w u None l e = e
 
     turn_by : (w : Walk) (u : TurnEnd) (b : Bool) → ltb w.from w.to ≡ b → Past q w → Choose b (Carves s w u) (WalkTurn s h w w.place u)
         → Choose b (Carves t w u) (WalkTurn t h w w.place u)

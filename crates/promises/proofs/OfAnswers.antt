@@ -21,6 +21,8 @@ use Rattle.chunk_answers.proofs.header.Kinds as headerK
 use Rattle.chunk_answers.proofs.header.Reads as headerR
 use Rattle.chunk_answers.proofs.events.Kinds as eventsK
 use Rattle.chunk_answers.proofs.events.Reads as eventsR
+use Rattle.chunk_answers.proofs.judged.Kinds as judgedK
+use Rattle.chunk_answers.proofs.judged.Reads as judgedR
 use Rattle.chunk_answers.proofs.record.Kinds as record_atK
 use Rattle.chunk_answers.proofs.record.Reads as record_atR
 use Rattle.chunk_answers.proofs.walk.Kinds as whole_walkK
@@ -80,6 +82,10 @@ header κs a x y s t p q = puts_one _ _ _ _ _ _ _ _ refl p q
 pub events : (κs : Lfts 2) (a : Dens κs eventsK.ps) (x y : (res_t eventsK.r κs).Denot) (s t : AtExit (ended_of 2 eventsK.ps eventsK.r) κs)
     → eventsR.Post κs a x s → eventsR.Post κs a y t → (s.0.now ≡ t.0.now) × (x ≡ y)
 events κs a x y s t p q = puts_one _ _ _ _ _ _ _ _ refl p q
+
+pub judged : (κs : Lfts 2) (a : Dens κs judgedK.ps) (x y : (res_t judgedK.r κs).Denot) (s t : AtExit (ended_of 2 judgedK.ps judgedK.r) κs)
+    → judgedR.Post κs a x s → judgedR.Post κs a y t → (s.0.now ≡ t.0.now) × (x ≡ y)
+judged κs a x y s t p q = puts_one _ _ _ _ _ _ _ _ refl p q
 
 pub record_at : (κs : Lfts 2) (a : Dens κs record_atK.ps) (x y : (res_t record_atK.r κs).Denot) (s t : AtExit (ended_of 2 record_atK.ps record_atK.r) κs)
     → record_atR.Post κs a x s → record_atR.Post κs a y t → (s.0.now ≡ t.0.now) × (x ≡ y)

@@ -1,28 +1,14 @@
--- `cursor`: each public call allows one answer. An answer enum can be read back from document 01's terms, so what the contract
--- says in those terms fixes the enum's value. Assumes nothing.
+-- `cursor`: each public call allows one answer. An answer can be read back from document 01's terms, so what the contract says in those
+-- terms fixes the answer's value. Assumes nothing.
+use Rattle.std.specs.Prelude.{Ok, Err, Result}
+use Rattle.cursor.specs.declared.Cursor.{Cursor}
+use Rattle.cursor.specs.declared.Refusal.{Refusal}
 use mathlib.Core.Path.{◌≡◌, refl, sym, ◌∙◌}
-use Prim.Native.Nat.{ℕ}
 use contract.Lifetimes.{Lfts}
 use borrow.Fn.Kinds.{Dens, res_t, ended_of}
 use denote.Triple.Clauses.{AtExit}
 use Rattle.cursor.specs.Answer.{Answer, given, refused}
-use Rattle.cursor.specs.Answers.{u8_answer, u16_answer, u32_answer, u64_answer, moved_answer, taken_answer, text_answer}
-use Rattle.cursor.specs.declared.Part.{Part}
-use Rattle.cursor.specs.declared.View.{View}
-use Rattle.cursor.specs.declared.ReadU8.{ReadU8}
-use Rattle.cursor.specs.declared.ReadU8.TheVariants as U8
-use Rattle.cursor.specs.declared.ReadU16.{ReadU16}
-use Rattle.cursor.specs.declared.ReadU16.TheVariants as U16
-use Rattle.cursor.specs.declared.ReadU32.{ReadU32}
-use Rattle.cursor.specs.declared.ReadU32.TheVariants as U32
-use Rattle.cursor.specs.declared.ReadU64.{ReadU64}
-use Rattle.cursor.specs.declared.ReadU64.TheVariants as U64
-use Rattle.cursor.specs.declared.Moved.{Moved}
-use Rattle.cursor.specs.declared.Moved.TheVariants as M
-use Rattle.cursor.specs.declared.Taken.{Taken}
-use Rattle.cursor.specs.declared.Taken.TheVariants as B
-use Rattle.cursor.specs.declared.Text.{Text}
-use Rattle.cursor.specs.declared.Text.TheVariants as X
+use Rattle.cursor.specs.Answers.{moved_answer}
 use Rattle.cursor.proofs.Cursor.with_pos.Kinds as with_posK
 use Rattle.cursor.proofs.Cursor.with_pos.Reads as with_posR
 use Rattle.cursor.proofs.Cursor.set_pos.Kinds as set_posK
@@ -67,84 +53,18 @@ use Rattle.cursor.proofs.unit_at.Kinds as unit_atK
 use Rattle.cursor.proofs.unit_at.Reads as unit_atR
 use Rattle.cursor.proofs.Part.of.Kinds as ofK
 use Rattle.cursor.proofs.Part.of.Reads as ofR
-use Rattle.promises.proofs.One.{Single, counted_one, read_back}
+use Rattle.promises.proofs.One.{Single, counted_one, read_back, read_one}
 
-abbrev u8_back : Answer ℕ → ReadU8
-u8_back (given v n) = U8.Value v (record { at = n })
-u8_back (refused k p) = U8.Refused (record { number = k; place = p })
-
-pub u8_one : (x y : ReadU8) (b : Answer ℕ) → u8_answer x ≡ b → u8_answer y ≡ b → x ≡ y
-u8_one = read_back u8_answer u8_back back
-  where
-    back : (x : ReadU8) → u8_back (u8_answer x) ≡ x
-    back (U8.Value v c) = refl
-    back (U8.Refused r) = refl
-
-abbrev u16_back : Answer ℕ → ReadU16
-u16_back (given v n) = U16.Value v (record { at = n })
-u16_back (refused k p) = U16.Refused (record { number = k; place = p })
-
-pub u16_one : (x y : ReadU16) (b : Answer ℕ) → u16_answer x ≡ b → u16_answer y ≡ b → x ≡ y
-u16_one = read_back u16_answer u16_back back
-  where
-    back : (x : ReadU16) → u16_back (u16_answer x) ≡ x
-    back (U16.Value v c) = refl
-    back (U16.Refused r) = refl
-
-abbrev u32_back : Answer ℕ → ReadU32
-u32_back (given v n) = U32.Value v (record { at = n })
-u32_back (refused k p) = U32.Refused (record { number = k; place = p })
-
-pub u32_one : (x y : ReadU32) (b : Answer ℕ) → u32_answer x ≡ b → u32_answer y ≡ b → x ≡ y
-u32_one = read_back u32_answer u32_back back
-  where
-    back : (x : ReadU32) → u32_back (u32_answer x) ≡ x
-    back (U32.Value v c) = refl
-    back (U32.Refused r) = refl
-
-abbrev u64_back : Answer ℕ → ReadU64
-u64_back (given v n) = U64.Value v (record { at = n })
-u64_back (refused k p) = U64.Refused (record { number = k; place = p })
-
-pub u64_one : (x y : ReadU64) (b : Answer ℕ) → u64_answer x ≡ b → u64_answer y ≡ b → x ≡ y
-u64_one = read_back u64_answer u64_back back
-  where
-    back : (x : ReadU64) → u64_back (u64_answer x) ≡ x
-    back (U64.Value v c) = refl
-    back (U64.Refused r) = refl
-
-abbrev moved_back : Answer Unit → Moved
-moved_back (given v n) = M.To (record { at = n })
-moved_back (refused k p) = M.Refused (record { number = k; place = p })
-
-pub moved_one : (x y : Moved) (b : Answer Unit) → moved_answer x ≡ b → moved_answer y ≡ b → x ≡ y
+pub moved_one : (x y : Result Cursor Refusal) (b : Answer Unit) → moved_answer x ≡ b → moved_answer y ≡ b → x ≡ y
 moved_one = read_back moved_answer moved_back back
   where
-    back : (x : Moved) → moved_back (moved_answer x) ≡ x
-    back (M.To c) = refl
-    back (M.Refused r) = refl
+    moved_back : Answer Unit → Result Cursor Refusal
+    moved_back (given v n) = Ok (record { at = n })
+    moved_back (refused k p) = Err (record { number = k; place = p })
 
-abbrev taken_back : Answer Part → Taken
-taken_back (given v n) = B.Bytes v (record { at = n })
-taken_back (refused k p) = B.Refused (record { number = k; place = p })
-
-pub taken_one : (x y : Taken) (b : Answer Part) → taken_answer x ≡ b → taken_answer y ≡ b → x ≡ y
-taken_one = read_back taken_answer taken_back back
-  where
-    back : (x : Taken) → taken_back (taken_answer x) ≡ x
-    back (B.Bytes v c) = refl
-    back (B.Refused r) = refl
-
-abbrev text_back : Answer View → Text
-text_back (given v n) = X.Units v (record { at = n })
-text_back (refused k p) = X.Refused (record { number = k; place = p })
-
-pub text_one : (x y : Text) (b : Answer View) → text_answer x ≡ b → text_answer y ≡ b → x ≡ y
-text_one = read_back text_answer text_back back
-  where
-    back : (x : Text) → text_back (text_answer x) ≡ x
-    back (X.Units v c) = refl
-    back (X.Refused r) = refl
+    back : (x : Result Cursor Refusal) → moved_back (moved_answer x) ≡ x
+    back (Ok c) = refl
+    back (Err r) = refl
 
 pub with_pos : Single 1 with_posK.ps with_posK.r with_posR.Post
 with_pos κs a x y s t p q = moved_one x y _ p q
@@ -153,34 +73,34 @@ pub set_pos : Single 1 set_posK.ps set_posK.r set_posR.Post
 set_pos κs a x y s t p q = moved_one x y _ p q
 
 pub take_bytes : Single 1 take_bytesK.ps take_bytesK.r take_bytesR.Post
-take_bytes κs a x y s t p q = taken_one x y _ p q
+take_bytes κs a x y s t p q = read_one x y _ p q
 
 pub u8 : Single 1 u8K.ps u8K.r u8R.Post
-u8 κs a x y s t p q = u8_one x y _ p q
+u8 κs a x y s t p q = read_one x y _ p q
 
 pub u16 : Single 1 u16K.ps u16K.r u16R.Post
-u16 κs a x y s t p q = u16_one x y _ p q
+u16 κs a x y s t p q = read_one x y _ p q
 
 pub u32 : Single 1 u32K.ps u32K.r u32R.Post
-u32 κs a x y s t p q = u32_one x y _ p q
+u32 κs a x y s t p q = read_one x y _ p q
 
 pub u64 : Single 1 u64K.ps u64K.r u64R.Post
-u64 κs a x y s t p q = u64_one x y _ p q
+u64 κs a x y s t p q = read_one x y _ p q
 
 pub read_sid : Single 1 read_sidK.ps read_sidK.r read_sidR.Post
-read_sid κs a x y s t p q = taken_one x y _ p q
+read_sid κs a x y s t p q = read_one x y _ p q
 
 pub read_array : Single 1 read_arrayK.ps read_arrayK.r read_arrayR.Post
-read_array κs a x y s t p q = taken_one x y _ p q
+read_array κs a x y s t p q = read_one x y _ p q
 
 pub utf16_by_char_count : Single 1 utf16_by_char_countK.ps utf16_by_char_countK.r utf16_by_char_countR.Post
-utf16_by_char_count κs a x y s t p q = text_one x y _ p q
+utf16_by_char_count κs a x y s t p q = read_one x y _ p q
 
 pub len_prefixed_utf16_string : Single 1 len_prefixed_utf16_stringK.ps len_prefixed_utf16_stringK.r len_prefixed_utf16_stringR.Post
-len_prefixed_utf16_string κs a x y s t p q = text_one x y _ p q
+len_prefixed_utf16_string κs a x y s t p q = read_one x y _ p q
 
 pub null_terminated_utf16_string : Single 1 null_terminated_utf16_stringK.ps null_terminated_utf16_stringK.r null_terminated_utf16_stringR.Post
-null_terminated_utf16_string κs a x y s t p q = text_one x y _ p q
+null_terminated_utf16_string κs a x y s t p q = read_one x y _ p q
 
 pub u8_at : Single 1 u8_atK.ps u8_atK.r u8_atR.Post
 u8_at κs a x y s t p q = p ∙ sym q

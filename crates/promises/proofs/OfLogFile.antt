@@ -1,7 +1,10 @@
 -- `log_file`: each public call allows one answer, and the listing one content of the lent rows. Nothing that happens in one chunk changes
 -- another's listing. Assumes nothing.
+use Rattle.std.specs.Prelude as Std
+use Rattle.std.specs.Prelude.{Ok, Err}
+use Rattle.cursor.specs.declared.Refusal.{Refusal}
 use mathlib.Core.Path.{◌≡◌, refl, sym, subst, ◌∙◌}
-use mathlib.Core.Bool.{Bool}
+use mathlib.Core.Bool.{Bool, true, false}
 use mathlib.Core.List.{List}
 use Prim.Native.Nat.{ℕ, ◌+◌, ◌*◌, ◌≤◌}
 use contract.Lifetimes.{Lfts}
@@ -12,8 +15,6 @@ use lib.ListN.{length, take, drop}
 use Rattle.cursor.specs.Answer.{Answer, given, refused, Result, gives, refuses, Maybe, just, nothing}
 use Rattle.cursor.specs.Answers.{count_answer}
 use Rattle.cursor.specs.declared.Part.{Part}
-use Rattle.record.specs.declared.Checksum.{Checksum}
-use Rattle.record.specs.declared.Checksum.TheVariants as Y
 use Rattle.chunk.specs.Walk.{Reply}
 use Rattle.chunk.specs.Whole.{most_answers}
 use Rattle.log_file.specs.Header.{file_at}
@@ -21,8 +22,6 @@ use Rattle.log_file.specs.Chunks.{chunk_start, piece_count}
 use Rattle.log_file.specs.Listing.{FileItems, FileRowsAnswer, FileListsOn, file_rows, chunk_rows, row_count}
 use Rattle.log_file.specs.Answers.{file_answer, file_checksum_answer, piece_answer}
 use Rattle.log_file.specs.declared.FileHeader.{FileHeader}
-use Rattle.log_file.specs.declared.FileRead.{FileRead}
-use Rattle.log_file.specs.declared.FileRead.TheVariants as F
 use Rattle.log_file.specs.declared.Piece.{Piece}
 use Rattle.log_file.specs.declared.Piece.TheVariants as P
 use Rattle.log_file.proofs.Listed.{items_one, most_rows}
@@ -37,28 +36,23 @@ use Rattle.log_file.proofs.piece_at.Kinds as pieceK
 use Rattle.log_file.proofs.piece_at.Reads as pieceR
 use Rattle.log_file.proofs.list_file.Kinds as listK
 use Rattle.log_file.proofs.list_file.Reads as listR
-use Rattle.promises.proofs.One.{Single, counted_one, read_back}
-use Rattle.promises.proofs.OfRecord.{checksum_back}
+use Rattle.promises.proofs.One.{Single, counted_one, read_back, value_of}
 use Rattle.promises.proofs.OfChunk.{chosen_one}
 
-abbrev file_back : Answer FileHeader → FileRead
-file_back (given h n) = F.Read h
-file_back (refused k p) = F.Refused (record { number = k; place = p })
-
-pub file_one : (x y : FileRead) (b : Answer FileHeader) → file_answer x ≡ b → file_answer y ≡ b → x ≡ y
-file_one = read_back file_answer file_back back
+pub file_one : (x y : Std.Result FileHeader Refusal) (b : Answer FileHeader) → file_answer x ≡ b → file_answer y ≡ b → x ≡ y
+file_one = read_back file_answer value_of back
   where
-    back : (x : FileRead) → file_back (file_answer x) ≡ x
-    back (F.Read h) = refl
-    back (F.Refused r) = refl
+    back : (x : Std.Result FileHeader Refusal) → value_of (file_answer x) ≡ x
+    back (Ok h) = refl
+    back (Err r) = refl
 
-pub check_one : (x y : Checksum) (b : Answer Bool) → file_checksum_answer x ≡ b → file_checksum_answer y ≡ b → x ≡ y
-check_one = read_back file_checksum_answer checksum_back back
+pub check_one : (x y : Std.Result Bool Refusal) (b : Answer Bool) → file_checksum_answer x ≡ b → file_checksum_answer y ≡ b → x ≡ y
+check_one = read_back file_checksum_answer value_of back
   where
-    back : (x : Checksum) → checksum_back (file_checksum_answer x) ≡ x
-    back Y.Yes = refl
-    back Y.No = refl
-    back (Y.Refused r) = refl
+    back : (x : Std.Result Bool Refusal) → value_of (file_checksum_answer x) ≡ x
+    back (Ok true) = refl
+    back (Ok false) = refl
+    back (Err r) = refl
 
 abbrev standing_back : Part → Result Unit → Piece
 standing_back p (gives u) = P.Chunk p

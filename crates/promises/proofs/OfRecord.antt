@@ -1,19 +1,15 @@
 -- `record`: each public call allows one answer. Assumes nothing.
+use Rattle.std.specs.Prelude.{Ok, Err, Result}
+use Rattle.cursor.specs.declared.Refusal.{Refusal}
 use mathlib.Core.Path.{◌≡◌, refl, sym, ◌∙◌}
 use mathlib.Core.Bool.{Bool, true, false}
 use contract.Lifetimes.{Lfts}
 use borrow.Fn.Kinds.{Dens, res_t, ended_of}
 use denote.Triple.Clauses.{AtExit}
-use Rattle.cursor.specs.Answer.{Answer, given, refused}
+use Rattle.cursor.specs.Answer.{Answer}
 use Rattle.record.specs.Answers.{fields_answer, checksum_answer, record_answer}
 use Rattle.record.specs.declared.Fields.{Fields}
-use Rattle.record.specs.declared.FieldsRead.{FieldsRead}
-use Rattle.record.specs.declared.FieldsRead.TheVariants as F
-use Rattle.record.specs.declared.Checksum.{Checksum}
-use Rattle.record.specs.declared.Checksum.TheVariants as C
 use Rattle.record.specs.declared.Record.{Record}
-use Rattle.record.specs.declared.RecordRead.{RecordRead}
-use Rattle.record.specs.declared.RecordRead.TheVariants as R
 use Rattle.record.proofs.read_fields.Kinds as fieldsK
 use Rattle.record.proofs.read_fields.Reads as fieldsR
 use Rattle.record.proofs.read_header.Kinds as headerK
@@ -32,45 +28,29 @@ use Rattle.record.proofs.read_strict.Kinds as strictK
 use Rattle.record.proofs.read_strict.Reads as strictR
 use Rattle.record.proofs.Record.payload.Kinds as payloadK
 use Rattle.record.proofs.Record.payload.Reads as payloadR
-use Rattle.promises.proofs.One.{Single, counted_one, read_back}
+use Rattle.promises.proofs.One.{Single, counted_one, read_back, value_of}
 
-abbrev fields_back : Answer Fields → FieldsRead
-fields_back (given f n) = F.Read f
-fields_back (refused k p) = F.Refused (record { number = k; place = p })
-
-pub fields_one : (x y : FieldsRead) (b : Answer Fields) → fields_answer x ≡ b → fields_answer y ≡ b → x ≡ y
-fields_one = read_back fields_answer fields_back back
+pub fields_one : (x y : Result Fields Refusal) (b : Answer Fields) → fields_answer x ≡ b → fields_answer y ≡ b → x ≡ y
+fields_one = read_back fields_answer value_of back
   where
-    back : (x : FieldsRead) → fields_back (fields_answer x) ≡ x
-    back (F.Read f) = refl
-    back (F.Refused r) = refl
+    back : (x : Result Fields Refusal) → value_of (fields_answer x) ≡ x
+    back (Ok f) = refl
+    back (Err r) = refl
 
-abbrev pub yes_no : Bool → Checksum
-yes_no true = C.Yes
-yes_no false = C.No
-
-abbrev pub checksum_back : Answer Bool → Checksum
-checksum_back (given b n) = yes_no b
-checksum_back (refused k p) = C.Refused (record { number = k; place = p })
-
-pub checksum_one : (x y : Checksum) (b : Answer Bool) → checksum_answer x ≡ b → checksum_answer y ≡ b → x ≡ y
-checksum_one = read_back checksum_answer checksum_back back
+pub checksum_one : (x y : Result Bool Refusal) (b : Answer Bool) → checksum_answer x ≡ b → checksum_answer y ≡ b → x ≡ y
+checksum_one = read_back checksum_answer value_of back
   where
-    back : (x : Checksum) → checksum_back (checksum_answer x) ≡ x
-    back C.Yes = refl
-    back C.No = refl
-    back (C.Refused r) = refl
+    back : (x : Result Bool Refusal) → value_of (checksum_answer x) ≡ x
+    back (Ok true) = refl
+    back (Ok false) = refl
+    back (Err r) = refl
 
-abbrev record_back : Answer Record → RecordRead
-record_back (given r n) = R.Record r
-record_back (refused k p) = R.Refused (record { number = k; place = p })
-
-pub record_one : (x y : RecordRead) (b : Answer Record) → record_answer x ≡ b → record_answer y ≡ b → x ≡ y
-record_one = read_back record_answer record_back back
+pub record_one : (x y : Result Record Refusal) (b : Answer Record) → record_answer x ≡ b → record_answer y ≡ b → x ≡ y
+record_one = read_back record_answer value_of back
   where
-    back : (x : RecordRead) → record_back (record_answer x) ≡ x
-    back (R.Record r) = refl
-    back (R.Refused r) = refl
+    back : (x : Result Record Refusal) → value_of (record_answer x) ≡ x
+    back (Ok r) = refl
+    back (Err r) = refl
 
 pub read_fields : Single 1 fieldsK.ps fieldsK.r fieldsR.Post
 read_fields κs a x y s t p q = fields_one x y _ p q

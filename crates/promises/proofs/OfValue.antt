@@ -1,14 +1,9 @@
 -- `value`: each public call allows one answer. Assumes nothing.
+use Rattle.std.specs.Prelude.{Some, None, Option}
 use mathlib.Core.Path.{◌≡◌, refl, sym, ◌∙◌}
-use Rattle.cursor.specs.Answer.{Answer, given, refused, Maybe, just, nothing}
+use Rattle.cursor.specs.Answer.{Maybe}
 use Rattle.value.specs.Scalar.{decoding_answer}
-use Rattle.value.specs.Value.{value_answer}
 use Rattle.value.specs.declared.Decoded.{Decoded}
-use Rattle.value.specs.declared.Decoding.{Decoding}
-use Rattle.value.specs.declared.Decoding.TheVariants as D
-use Rattle.value.specs.declared.Value.{Value}
-use Rattle.value.specs.declared.ValueRead.{ValueRead}
-use Rattle.value.specs.declared.ValueRead.TheVariants as R
 use Rattle.value.proofs.Kind.all.Kinds as allK
 use Rattle.value.proofs.Kind.all.Reads as all_r
 use Rattle.value.proofs.Kind.known.Kinds as knownK
@@ -23,29 +18,14 @@ use Rattle.value.proofs.read_unsized.Kinds as unsizedK
 use Rattle.value.proofs.read_unsized.Reads as unsizedR
 use Rattle.value.proofs.decode.Kinds as decodeK
 use Rattle.value.proofs.decode.Reads as decodeR
-use Rattle.promises.proofs.One.{Single, read_back}
+use Rattle.promises.proofs.One.{Single, option_of, read_back, read_one}
 
-abbrev value_back : Answer Value → ValueRead
-value_back (given v n) = R.Read v (record { at = n })
-value_back (refused k p) = R.Refused (record { number = k; place = p })
-
-pub value_one : (x y : ValueRead) (b : Answer Value) → value_answer x ≡ b → value_answer y ≡ b → x ≡ y
-value_one = read_back value_answer value_back back
+pub decoding_one : (x y : Option Decoded) (b : Maybe Decoded) → decoding_answer x ≡ b → decoding_answer y ≡ b → x ≡ y
+decoding_one = read_back decoding_answer option_of back
   where
-    back : (x : ValueRead) → value_back (value_answer x) ≡ x
-    back (R.Read v c) = refl
-    back (R.Refused r) = refl
-
-abbrev decoding_back : Maybe Decoded → Decoding
-decoding_back (just d) = D.Number d
-decoding_back nothing = D.NoNumber
-
-pub decoding_one : (x y : Decoding) (b : Maybe Decoded) → decoding_answer x ≡ b → decoding_answer y ≡ b → x ≡ y
-decoding_one = read_back decoding_answer decoding_back back
-  where
-    back : (x : Decoding) → decoding_back (decoding_answer x) ≡ x
-    back (D.Number d) = refl
-    back D.NoNumber = refl
+    back : (x : Option Decoded) → option_of (decoding_answer x) ≡ x
+    back (Some d) = refl
+    back None = refl
 
 pub all : Single 0 allK.ps allK.r all_r.Post
 all κs a x y s t p q = p ∙ sym q
@@ -60,10 +40,10 @@ pub element_width : Single 0 elementK.ps elementK.r elementR.Post
 element_width κs a x y s t p q = p ∙ sym q
 
 pub read_sized : Single 1 sizedK.ps sizedK.r sizedR.Post
-read_sized κs a x y s t p q = value_one x y _ p q
+read_sized κs a x y s t p q = read_one x y _ p q
 
 pub read_unsized : Single 1 unsizedK.ps unsizedK.r unsizedR.Post
-read_unsized κs a x y s t p q = value_one x y _ p q
+read_unsized κs a x y s t p q = read_one x y _ p q
 
 pub decode : Single 1 decodeK.ps decodeK.r decodeR.Post
 decode κs a x y s t p q = decoding_one x y _ p q

@@ -1,5 +1,6 @@
 -- Carving never moves the walk: without recovery a chunk's walk answers what it answers with recovery, less the carved records. Assumes
 -- nothing.
+use Rattle.std.specs.Prelude.{Some, None, Option}
 use mathlib.Core.Path.{◌≡◌, refl, sym, ap, subst, ◌∙◌}
 use mathlib.Core.Bool.{Bool, true, false}
 use mathlib.Core.List.{List, [], ◌∷◌}
@@ -11,12 +12,8 @@ use Rattle.record.specs.Record.{plain_at, strict_at}
 use Rattle.record.specs.declared.Fields.{Fields}
 use Rattle.record.specs.declared.Record.{Record}
 use Rattle.search.specs.Allowed.{live_end}
-use Rattle.search.specs.declared.Found.{Found}
-use Rattle.search.specs.declared.Found.TheVariants as F
 use Rattle.chunk.specs.Walk.{Choose, Reply, live, carved, refused_with, start_of, TurnEnd, answered, going_on, Carves, Turns, Goes, answers, goes_on, Steps, StepsOn, WalkTurn, ReadTurn, carved_at, after_carve, after_refusal, after_live, skip_to, placed, silent, blank}
 use Rattle.chunk.specs.Listing.{Runs}
-use Rattle.chunk.specs.declared.Place.{Place}
-use Rattle.chunk.specs.declared.Place.TheVariants as P
 use Rattle.chunk.specs.declared.Walk.{Walk}
 use Rattle.chunk.proofs.Phases.{answers_not, carve_next}
 use Rattle.chunk.proofs.Order.{answered_is, told}
@@ -35,16 +32,16 @@ off_end (going_on v) = going_on (off v)
 off_live : (h : Fields) (w : Walk) (r : Record) (n : ℕ) → off (after_live h w r n) ≡ after_live h (off w) r n
 off_live h w r n = by (eqb r.id h.ids.last)
   where
-    by : (b : Bool) → off (pick b (skip_to w n F.Nothing) (placed w (P.At n))) ≡ pick b (skip_to (off w) n F.Nothing) (placed (off w) (P.At n))
+    by : (b : Bool) → off (pick b (skip_to w n None) (placed w (Some n))) ≡ pick b (skip_to (off w) n None) (placed (off w) (Some n))
     by true = refl
     by false = refl
 
-off_refusal : (s : List ℕ) (w : Walk) (p k c : ℕ) (f : Found) → off_end (after_refusal s w p k c f) ≡ after_refusal s (off w) p k c f
-off_refusal s w p k c (F.At q) = refl
-off_refusal s w p k c F.Nothing = by (blank s p k)
+off_refusal : (s : List ℕ) (w : Walk) (p k c : ℕ) (f : Option ℕ) → off_end (after_refusal s w p k c f) ≡ after_refusal s (off w) p k c f
+off_refusal s w p k c (Some q) = refl
+off_refusal s w p k c None = by (blank s p k)
   where
-    by : (b : Bool) → off_end (pick b (going_on (skip_to w p F.Nothing)) (answered (skip_to w p F.Nothing, just (refused_with k c))))
-        ≡ pick b (going_on (skip_to (off w) p F.Nothing)) (answered (skip_to (off w) p F.Nothing, just (refused_with k c)))
+    by : (b : Bool) → off_end (pick b (going_on (skip_to w p None)) (answered (skip_to w p None, just (refused_with k c))))
+        ≡ pick b (going_on (skip_to (off w) p None)) (answered (skip_to (off w) p None, just (refused_with k c)))
     by true = refl
     by false = refl
 
@@ -69,14 +66,14 @@ module _ (s : List ℕ) (h : Fields) where
   off_read w p u (refused k c) e =
       record { found = e.found; least = e.least; is = ap off_end e.is ∙ off_refusal s w p k c e.found }
 
-  off_at : (w : Walk) (p : ℕ) (u : TurnEnd) (b : Bool) → Choose b (u ≡ going_on (skip_to w p F.Nothing)) (ReadTurn s h w p (plain_at s p) u)
-      → Choose b (off_end u ≡ going_on (skip_to (off w) p F.Nothing)) (ReadTurn s h (off w) p (plain_at s p) (off_end u))
+  off_at : (w : Walk) (p : ℕ) (u : TurnEnd) (b : Bool) → Choose b (u ≡ going_on (skip_to w p None)) (ReadTurn s h w p (plain_at s p) u)
+      → Choose b (off_end u ≡ going_on (skip_to (off w) p None)) (ReadTurn s h (off w) p (plain_at s p) (off_end u))
   off_at w p u true e = ap off_end e
   off_at w p u false e = off_read w p u (plain_at s p) e
 
-  off_walk : (w : Walk) (u : TurnEnd) (place : Place) → WalkTurn s h w place u → WalkTurn s h (off w) place (off_end u)
-  off_walk w u (P.At p) e = off_at w p u (leb (live_end h) p) e
-  off_walk w u P.Over e = ap off_end e
+  off_walk : (w : Walk) (u : TurnEnd) (place : Option ℕ) → WalkTurn s h w place u → WalkTurn s h (off w) place (off_end u)
+  off_walk w u (Some p) e = off_at w p u (leb (live_end h) p) e
+  off_walk w u None e = ap off_end e
 
   -- and says no carved record
   said : (x y : Walk × Maybe Reply) → NotCarved y.1 → x ≡ y → NotCarved x.1
@@ -87,13 +84,13 @@ module _ (s : List ℕ) (h : Fields) where
   read_says w p x (refused k c) e = said x _ (tt {0}) (told x (silent s p k e.found) _ _ _ e.is)
 
   at_says : (w : Walk) (p : ℕ) (x : Walk × Maybe Reply) (b : Bool)
-      → Choose b (answered x ≡ going_on (skip_to w p F.Nothing)) (ReadTurn s h w p (plain_at s p) (answered x)) → NotCarved x.1
+      → Choose b (answered x ≡ going_on (skip_to w p None)) (ReadTurn s h w p (plain_at s p) (answered x)) → NotCarved x.1
   at_says w p x true e = absurd (answers_not _ x (sym e))
   at_says w p x false e = read_says w p x (plain_at s p) e
 
-  walk_says : (w : Walk) (x : Walk × Maybe Reply) (place : Place) → WalkTurn s h w place (answered x) → NotCarved x.1
-  walk_says w x (P.At p) e = at_says w p x (leb (live_end h) p) e
-  walk_says w x P.Over e = said x _ (tt {0}) (answered_is x _ e)
+  walk_says : (w : Walk) (x : Walk × Maybe Reply) (place : Option ℕ) → WalkTurn s h w place (answered x) → NotCarved x.1
+  walk_says w x (Some p) e = at_says w p x (leb (live_end h) p) e
+  walk_says w x None e = said x _ (tt {0}) (answered_is x _ e)
 
   -- a carve leaves the place, and says a carved record
   carved_says : (w : Walk) (x : Walk × Maybe Reply) (a : Answer Record) → answered x ≡ carved_at w a → (off x.0 ≡ off w) × (NotCarved x.1 → ⊥)
@@ -102,9 +99,9 @@ module _ (s : List ℕ) (h : Fields) where
       (ap (λ (z : Walk × Maybe Reply). off z.0) y, λ k. subst (λ (z : Walk × Maybe Reply). NotCarved z.1) y k)
   carved_says w x (refused k c) e = absurd (answers_not _ x (sym e))
 
-  carve_says : (w : Walk) (x : Walk × Maybe Reply) (f : Found) → answered x ≡ after_carve s w f → (off x.0 ≡ off w) × (NotCarved x.1 → ⊥)
-  carve_says w x (F.At o) e = carved_says w x (strict_at s o) e
-  carve_says w x F.Nothing e = absurd (answers_not _ x (sym e))
+  carve_says : (w : Walk) (x : Walk × Maybe Reply) (f : Option ℕ) → answered x ≡ after_carve s w f → (off x.0 ≡ off w) × (NotCarved x.1 → ⊥)
+  carve_says w x (Some o) e = carved_says w x (strict_at s o) e
+  carve_says w x None e = absurd (answers_not _ x (sym e))
 
   module _ (n : ℕ) (header : fields_at s ≡ given h n) where
     to_step : (w : Walk) (x : Walk × Maybe Reply) → Goes s h x w → Steps s w x

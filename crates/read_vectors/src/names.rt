@@ -1,7 +1,6 @@
 // Names of both kinds, and the hash.
 use crate::say;
 use cursor::Cursor;
-use name::NameRead;
 use std::io;
 
 pub(crate) fn run(rt: &impl Print) -> io::Result<()> {
@@ -55,34 +54,30 @@ pub(crate) fn run(rt: &impl Print) -> io::Result<()> {
 }
 
 fn offsets(rt: &impl Print, whole: &[u8]) -> io::Result<()> {
-    for n in 0..19usize {
-        if n <= whole.len() {
-            name_at(rt, say::front(whole, n), 0, false)?;
-        }
+    for n in 0..=whole.len().min(18) {
+        name_at(rt, &whole[..n], 0, false)?;
     }
     Ok(())
 }
 
 fn inlines(rt: &impl Print, whole: &[u8]) -> io::Result<()> {
-    for n in 0..12usize {
-        if n <= whole.len() {
-            name_at(rt, say::front(whole, n), 0, true)?;
-        }
+    for n in 0..=whole.len().min(11) {
+        name_at(rt, &whole[..n], 0, true)?;
     }
     Ok(())
 }
 
 // The name's offset and the next position; in a line of their own, where its units stand and how many they are.
 fn name_at(rt: &impl Print, s: &[u8], at: usize, inline: bool) -> io::Result<()> {
-    let c = Cursor { at: at };
+    let c = Cursor { at };
     say::call(rt, b"name", s.len(), at, inline as usize)?;
     match name::read_name_ref(c, s, inline) {
-        NameRead::Read(n, next) => {
+        Ok((n, next)) => {
             say::value(rt, n.offset as u64, next.at)?;
             say::call(rt, b"units", s.len(), at, inline as usize)?;
             say::value(rt, n.units as u64, n.count)
         }
-        NameRead::Refused(r) => say::refused(rt, r),
+        Err(r) => say::refused(rt, r),
     }
 }
 

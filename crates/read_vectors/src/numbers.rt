@@ -1,7 +1,7 @@
 // Number reads and positions: every slice of up to nine bytes, every position up to one past what any read could want, and the
 // largest position.
 use crate::say;
-use cursor::{Cursor, Moved, ReadU8, ReadU16, ReadU32, ReadU64};
+use cursor::{Cursor, Read, Refusal};
 use std::io;
 
 pub(crate) fn run(rt: &impl Print) -> io::Result<()> {
@@ -9,10 +9,8 @@ pub(crate) fn run(rt: &impl Print) -> io::Result<()> {
 }
 
 fn lengths(rt: &impl Print, whole: &[u8]) -> io::Result<()> {
-    for n in 0..10usize {
-        if n <= whole.len() {
-            positions(rt, say::front(whole, n))?;
-        }
+    for n in 0..=whole.len().min(9) {
+        positions(rt, &whole[..n])?;
     }
     Ok(())
 }
@@ -25,10 +23,11 @@ fn positions(rt: &impl Print, s: &[u8]) -> io::Result<()> {
 }
 
 fn at_position(rt: &impl Print, s: &[u8], at: usize) -> io::Result<()> {
-    read8(rt, s, at)?;
-    read16(rt, s, at)?;
-    read32(rt, s, at)?;
-    read64(rt, s, at)?;
+    let c = Cursor { at };
+    read(rt, b"u8", s, at, c.u8(s))?;
+    read(rt, b"u16", s, at, c.u16(s))?;
+    read(rt, b"u32", s, at, c.u32(s))?;
+    read(rt, b"u64", s, at, c.u64(s))?;
     say::call(rt, b"numbers", s.len(), at, 0)?;
     say::number(rt, cursor::u8_at(s, at) as usize)?;
     say::number(rt, cursor::u16_at(s, at) as usize)?;
@@ -42,48 +41,27 @@ fn at_position(rt: &impl Print, s: &[u8], at: usize) -> io::Result<()> {
     moved(rt, c.set_pos(s, at))
 }
 
-fn read8(rt: &impl Print, s: &[u8], at: usize) -> io::Result<()> {
-    let c = Cursor { at: at };
-    say::call(rt, b"u8", s.len(), at, 0)?;
-    match c.u8(s) {
-        ReadU8::Value(v, next) => say::value(rt, v as u64, next.at),
-        ReadU8::Refused(r) => say::refused(rt, r),
+// The line of one read, whatever the number's width.
+fn read<N: Into<u64> + Drop>(
+    rt: &impl Print,
+    name: &[u8],
+    s: &[u8],
+    at: usize,
+    got: Read<N>,
+) -> io::Result<()> {
+    say::call(rt, name, s.len(), at, 0)?;
+    match got {
+        Ok((v, next)) => say::value(rt, v.into(), next.at),
+        Err(r) => say::refused(rt, r),
     }
 }
 
-fn read16(rt: &impl Print, s: &[u8], at: usize) -> io::Result<()> {
-    let c = Cursor { at: at };
-    say::call(rt, b"u16", s.len(), at, 0)?;
-    match c.u16(s) {
-        ReadU16::Value(v, next) => say::value(rt, v as u64, next.at),
-        ReadU16::Refused(r) => say::refused(rt, r),
-    }
-}
-
-fn read32(rt: &impl Print, s: &[u8], at: usize) -> io::Result<()> {
-    let c = Cursor { at: at };
-    say::call(rt, b"u32", s.len(), at, 0)?;
-    match c.u32(s) {
-        ReadU32::Value(v, next) => say::value(rt, v as u64, next.at),
-        ReadU32::Refused(r) => say::refused(rt, r),
-    }
-}
-
-fn read64(rt: &impl Print, s: &[u8], at: usize) -> io::Result<()> {
-    let c = Cursor { at: at };
-    say::call(rt, b"u64", s.len(), at, 0)?;
-    match c.u64(s) {
-        ReadU64::Value(v, next) => say::value(rt, v, next.at),
-        ReadU64::Refused(r) => say::refused(rt, r),
-    }
-}
-
-fn moved(rt: &impl Print, m: Moved) -> io::Result<()> {
+fn moved(rt: &impl Print, m: Result<Cursor, Refusal>) -> io::Result<()> {
     match m {
-        Moved::To(c) => {
+        Ok(c) => {
             say::number(rt, c.at)?;
             say::end(rt)
         }
-        Moved::Refused(r) => say::refused(rt, r),
+        Err(r) => say::refused(rt, r),
     }
 }

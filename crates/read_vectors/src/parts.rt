@@ -27,7 +27,7 @@ fn counts(rt: &impl Print, s: &[u8], at: usize) -> io::Result<()> {
 }
 
 fn take(rt: &impl Print, s: &[u8], at: usize, n: usize) -> io::Result<()> {
-    let c = Cursor { at: at };
+    let c = Cursor { at };
     say::call(rt, b"take", s.len(), at, n)?;
     say::taken(rt, c.take_bytes(s, n), s)
 }
@@ -50,10 +50,8 @@ fn sids(rt: &impl Print) -> io::Result<()> {
 }
 
 fn sid_cut(rt: &impl Print, whole: &[u8]) -> io::Result<()> {
-    for n in 0..27usize {
-        if n <= whole.len() {
-            sid(rt, say::front(whole, n))?;
-        }
+    for n in 0..=whole.len().min(26) {
+        sid(rt, &whole[..n])?;
     }
     Ok(())
 }

@@ -1,12 +1,6 @@
 // What the lines are made of.
-use cursor::{Part, Refusal, Taken, Text};
+use cursor::{Part, Read, Refusal, View};
 use std::io;
-
-// The first n bytes of a slice, or none where it has fewer.
-pub(crate) fn front(whole: &[u8], n: usize) -> &[u8] {
-    let p = Part { start: 0, len: n };
-    p.of(whole)
-}
 
 // The call and what it was given: the slice's length, the position, and one number more.
 pub(crate) fn call(
@@ -47,40 +41,23 @@ pub(crate) fn refused(rt: &impl Print, r: Refusal) -> io::Result<()> {
 // The bytes of a part, each in decimal.
 fn bytes(rt: &impl Print, part: &[u8]) -> io::Result<()> {
     rt.write_all(b" [")?;
-    each(rt, part)?;
+    for b in part {
+        number(rt, *b as usize)?;
+    }
     rt.write_all(b" ]")
 }
 
-fn each(rt: &impl Print, part: &[u8]) -> io::Result<()> {
-    for i in 0..part.len() {
-        number(rt, wide(part[i]))?;
-    }
-    Ok(())
-}
-
-fn wide(b: u8) -> usize {
-    b as usize
-}
-
-pub(crate) fn taken(rt: &impl Print, t: Taken, s: &[u8]) -> io::Result<()> {
+pub(crate) fn taken(rt: &impl Print, t: Read<Part>, s: &[u8]) -> io::Result<()> {
     match t {
-        Taken::Bytes(p, next) => {
+        Ok((p, next)) => {
             bytes(rt, p.of(s))?;
             number(rt, next.at)?;
             end(rt)
         }
-        Taken::Refused(r) => refused(rt, r),
+        Err(r) => refused(rt, r),
     }
 }
 
-pub(crate) fn text(rt: &impl Print, t: Text, s: &[u8]) -> io::Result<()> {
-    match t {
-        Text::Units(v, next) => {
-            let p = v.part;
-            bytes(rt, p.of(s))?;
-            number(rt, next.at)?;
-            end(rt)
-        }
-        Text::Refused(r) => refused(rt, r),
-    }
+pub(crate) fn text(rt: &impl Print, t: Read<View>, s: &[u8]) -> io::Result<()> {
+    taken(rt, t.map(|(v, next)| (v.part, next)), s)
 }

@@ -1,6 +1,6 @@
 // Counted units, with and without a count in front, and units up to a zero unit.
 use crate::say;
-use cursor::Cursor;
+use cursor::{Counted, Cursor};
 use std::io;
 
 pub(crate) fn run(rt: &impl Print) -> io::Result<()> {
@@ -17,10 +17,8 @@ pub(crate) fn run(rt: &impl Print) -> io::Result<()> {
 }
 
 fn lengths(rt: &impl Print, whole: &[u8]) -> io::Result<()> {
-    for n in 0..10usize {
-        if n <= whole.len() {
-            cut(rt, say::front(whole, n))?;
-        }
+    for n in 0..=whole.len().min(9) {
+        cut(rt, &whole[..n])?;
     }
     Ok(())
 }
@@ -45,23 +43,21 @@ fn counts(rt: &impl Print, s: &[u8], at: usize) -> io::Result<()> {
 }
 
 fn counted(rt: &impl Print, s: &[u8], at: usize, n: usize) -> io::Result<()> {
-    let c = Cursor { at: at };
+    let c = Cursor { at };
     say::call(rt, b"counted", s.len(), at, n)?;
     say::text(rt, c.utf16_by_char_count(s, n), s)
 }
 
 fn zero_ended(rt: &impl Print, s: &[u8], at: usize) -> io::Result<()> {
-    let c = Cursor { at: at };
+    let c = Cursor { at };
     say::call(rt, b"zero_ended", s.len(), at, 0)?;
     say::text(rt, c.null_terminated_utf16_string(s), s)
 }
 
 fn prefixed_cut(rt: &impl Print, whole: &[u8]) -> io::Result<()> {
-    for n in 0..11usize {
-        if n <= whole.len() {
-            prefixed(rt, say::front(whole, n), false)?;
-            prefixed(rt, say::front(whole, n), true)?;
-        }
+    for n in 0..=whole.len().min(10) {
+        prefixed(rt, &whole[..n], false)?;
+        prefixed(rt, &whole[..n], true)?;
     }
     Ok(())
 }

@@ -6,10 +6,10 @@ use Prim.Native.Nat.{ℕ, suc, ◌+◌, ◌*◌, ◌≤◌, ◌<◌}
 use native.Mathlib.Nat.{zero-mul, one-mul, add-mul}
 use native.Mathlib.Omega.{arith}
 use native.Mathlib.Decide.{dec_lt}
-use borrow.Author.Tests.{eqb-true, eqb-false, eq-eqb, ne_eqb}
+use borrow.Author.Tests.{eqb-true, eqb-false, eq-eqb}
 use lib.Dec.{eqb, leb}
-use lib.ListN.{length, drop, get_or, length-append, drop_of_length-le}
-use lib.Seq.{drop-cons, drop-drop}
+use lib.ListN.{length, drop, length-append}
+use lib.Seq.{drop-drop}
 use Rattle.cursor.specs.Answer.{given, Result, gives, refuses, Maybe, just, nothing, pick}
 use Rattle.cursor.specs.Lent.{lent_answer, lent_left}
 use Rattle.cursor.specs.Refusals.{no_room_number, wrong_sheet}
@@ -25,11 +25,6 @@ use Rattle.sheet.specs.declared.Form.TheVariants as F
 use Rattle.sheet.proofs.Noting.{Numbers, read_token}
 use Rattle.sheet.proofs.Laying.{all_read}
 use Rattle.sheet.proofs.OldWord.{old_word}
-
--- no words agree with none
-pub none_given : (a : List ℕ) → agreeing a [] ≡ 0
-none_given [] = refl
-none_given (x ∷ a) = refl
 
 short_picked : (b : Bool) (k n : ℕ) → k ≤ n → pick b (suc k) 0 ≤ suc n
 short_picked true k n h = omega arith
@@ -108,34 +103,7 @@ pub equal_accepted : (l : List ℕ) → differs_at l l ≡ nothing
 equal_accepted [] = refl
 equal_accepted (x ∷ l) = rw (eq-eqb x x refl) (ap one_later (equal_accepted l))
 
--- past a given sheet's end nothing agrees
-pub given_over : (words kept : List ℕ) (same : ℕ) → length kept ≤ same → same ≡ same + agreeing words (drop same kept)
-given_over words kept same h =
-    let e : agreeing words (drop same kept) ≡ 0 = ap (agreeing words) (drop_of_length-le kept h) ∙ none_given words in
-    omega (arith, e)
-
--- one word beside the word at its place
-pub word_none : (kept : List ℕ) (at word : ℕ) → length kept ≤ at → at ≡ at + agreeing (word ∷ []) (drop at kept)
-word_none kept at word h = given_over (word ∷ []) kept at h
-
-pub word_wrong : (kept : List ℕ) (at word : ℕ) → at < length kept → (get_or kept at 0 ≡ word → ⊥) → at ≡ at + agreeing (word ∷ []) (drop at kept)
-word_wrong kept at word h n =
-    let b : eqb word (get_or kept at 0) ≡ false = ne_eqb word (get_or kept at 0) (λ q. n (sym q)) in
-    let e : agreeing (word ∷ []) (drop at kept) ≡ 0 = ap (agreeing (word ∷ [])) (drop-cons kept at 0 h) ∙ ap (λ (t : Bool). pick t 1 0) b in
-    omega (arith, e)
-
-pub word_right : (kept : List ℕ) (at word : ℕ) → at < length kept → get_or kept at 0 ≡ word → at + 1 ≡ at + agreeing (word ∷ []) (drop at kept)
-word_right kept at word h n =
-    let b : eqb word (get_or kept at 0) ≡ true = eq-eqb word (get_or kept at 0) (sym n) in
-    let e : agreeing (word ∷ []) (drop at kept) ≡ 1 = ap (agreeing (word ∷ [])) (drop-cons kept at 0 h) ∙ ap (λ (t : Bool). pick t 1 0) b in
-    omega (arith, e)
-
 -- two words, one behind the other
-pub two_none : (kept : List ℕ) (at x y : ℕ) → at ≡ at + agreeing (x ∷ []) (drop at kept) → at ≡ at + agreeing (x ∷ y ∷ []) (drop at kept)
-two_none kept at x y e =
-    let h : agreeing (x ∷ []) (drop at kept) < length (x ∷ []) = omega (arith, e) in
-    omega (arith, e, agreeing_some (x ∷ []) (y ∷ []) (drop at kept) h)
-
 pub two_some : (kept : List ℕ) (at x y first : ℕ) → first ≡ at + agreeing (x ∷ []) (drop at kept) → (first ≡ at → ⊥)
     → first + agreeing (y ∷ []) (drop first kept) ≡ at + agreeing (x ∷ y ∷ []) (drop at kept)
 two_some kept at x y first e n =
@@ -248,22 +216,6 @@ module _ (s : List ℕ) (end : ℕ) (f : Flags) (g : Numbers) (start : ℕ) (kep
             omega (arith, y.right p, z)
       ]
 
--- the words of n tokens are at most two for each
-pub form_small : (form : Form) (n : ℕ) → n * form_width form ≤ n * 2
-form_small F.Nothing n = omega arith
-form_small F.Old n = omega arith
-form_small F.New n = omega arith
-
--- the three ways to end
-pub ended_right : (len all n same : ℕ) → same ≡ len → same ≡ all → gives n ≡ ended_with len all n same
-ended_right len all n same a b = rw (eq-eqb same len a, eq-eqb same all b)
-
-pub ended_other : (len all n same : ℕ) → same ≡ len → (same ≡ all → ⊥) → refuses wrong_sheet same ≡ ended_with len all n same
-ended_other len all n same a b = rw (eq-eqb same len a, ne_eqb same all b)
-
-pub ended_short : (len all n same : ℕ) → (same ≡ len → ⊥) → refuses wrong_sheet same ≡ ended_with len all n same
-ended_short len all n same a = rw (ne_eqb same len a)
-
 -- the answer at the end of a walk, from how many words are right
 ended_is : (right kept : List ℕ) (all n same : ℕ) → agreeing right kept ≡ same → length right ≡ all
     → ended_with (length kept) all n same ≡ unless (differs_at right kept) n
@@ -339,16 +291,6 @@ module _ (from : List Token → List ℕ) where
       → (refuses k p ≡ kept_answer from to w kept lent) × (lent ≡ kept_words from to w kept lent)
   kept_refused to (ok l) kept lent k p e = refused_on l (differs_at (from l) kept) (to l) lent k p e
   kept_refused to (bad m q) kept lent k p e = (sym e, refl)
-
--- nothing given is always accepted
-pub nothing_given : (w : Walked) → beside_answer (in_form F.Nothing) w [] ≡ counted_of w
-nothing_given (ok l) = refl
-nothing_given (bad k p) = refl
-
-pub nothing_kept : (w : Walked) (lent : List ℕ)
-    → (kept_answer (in_form F.Nothing) words_of w [] lent ≡ sheet_answer w lent) × (kept_words (in_form F.Nothing) words_of w [] lent ≡ sheet_words w lent)
-nothing_kept (ok l) lent = (sym (told_on (leb (length (words_of l)) (length lent)) l (length (words_of l))), refl)
-nothing_kept (bad k p) lent = (refl, refl)
 
 -- what is said of a walk is said of the same walk under another name
 pub kept_as : (v w : Walked) (form : Form) (kept lent left : List ℕ) (r : Result ℕ) → w ≡ v

@@ -7,9 +7,6 @@ ghost use Rattle.sheet.specs.Sheet.{sheet_answer, sheet_words};
 ghost use Rattle.doortumble.specs.Calls.{flags_of};
 ghost use Rattle.sheet_call.specs.Told.{told_of};
 
-use cursor::Counted;
-use tokens::Flags;
-
 // How many tokens the stream has, with their words in the sheet, or all ones where it is refused.
 pub fn doortumble_bench_sheet(
     stream: &[u8],
@@ -22,12 +19,9 @@ pub fn doortumble_bench_sheet(
     ensures value { result ≡ told_of (sheet_answer (walk_of stream.now start length (flags_of dependencies inline)) sheet.old) }
     ensures sheet_after { sheet.new ≡ sheet_words (walk_of stream.now start length (flags_of dependencies inline)) sheet.old }
 {
-    let by = Flags {
-        dependencies: dependencies != 0,
-        inline: inline != 0,
-    };
+    let by = doortumble::flags(dependencies, inline);
     match sheet::fill(stream, start, length, by, sheet) {
-        Counted::Count(n) => n as u64,
-        Counted::Refused(_) => 0xFFFF_FFFF_FFFF_FFFF,
+        Ok(n) => n as u64,
+        Err(_) => u64::MAX,
     }
 }

@@ -1,4 +1,5 @@
 -- Lent words that are all the same, and a flag as a number. Assumes nothing.
+use Rattle.std.specs.Prelude.{min}
 use mathlib.Core.Path.{◌≡◌, refl, sym, ap, ◌∙◌}
 use mathlib.Core.Bool.{Bool, true, false}
 use mathlib.Core.List.{List, [], ◌∷◌}
@@ -33,14 +34,12 @@ take_replicate x k n =
     ]
 
 -- the first of words that are there, or all of them
-pub take_upto : (l : List ℕ) (n k room : ℕ) → n ≡ pick (leb k (length l)) k (length l) → k ≡ room → take n l ≡ take room l
+pub take_upto : (l : List ℕ) (n k room : ℕ) → n ≡ min k (length l) → k ≡ room → take n l ≡ take room l
 take_upto l n k room e h =
     elim (dec_lt (length l) k) [
-      | yes g ↦
-          let m : n ≡ length l = e ∙ (rw (lt-leb k (length l) g)) in
-          take_all n l (omega arith) ∙ sym (take_all room l (omega arith))
+      | yes g ↦ take_all n l (omega (arith, e, g)) ∙ sym (take_all room l (omega (arith, g, h)))
       | no g ↦
-          let m : n ≡ k = e ∙ (rw (le-leb k (length l) (omega arith))) in
+          let m : n ≡ k = omega (arith, e, g) in
           ap (λ (i : ℕ). take i l) (m ∙ h)
     ]
 
@@ -50,6 +49,15 @@ drop_short zero [] h = refl
 drop_short zero (x ∷ l) h = absurd (omega arith)
 drop_short (suc n) [] h = refl
 drop_short (suc n) (x ∷ l) h = drop_short n l (omega arith)
+
+pub drop_upto : (l : List ℕ) (n k : ℕ) → n ≡ min k (length l) → drop n l ≡ drop k l
+drop_upto l n k e =
+    elim (dec_lt (length l) k) [
+      | yes g ↦ drop_short n l (omega (arith, e, g)) ∙ sym (drop_short k l (omega (arith, g)))
+      | no g ↦
+          let m : n ≡ k = omega (arith, e, g) in
+          ap (λ (i : ℕ). drop i l) m
+    ]
 
 -- a flag as a number, and back
 bit_back : (b : Bool) → flag_of (bool_byte b) ≡ b

@@ -1,8 +1,10 @@
 -- Words that a case's data holds. Assumes nothing.
+use Rattle.std.specs.Prelude.{min}
 use mathlib.Core.Path.{◌≡◌, refl, sym, ap, ◌∙◌}
 use mathlib.Core.List.{List, [], ◌∷◌, ◌++◌, append-nil}
 use Prim.Native.Nat.{ℕ, zero, suc, ◌+◌, ◌*◌, ◌≤◌, ◌<◌}
 use native.Mathlib.Omega.{arith}
+use native.Mathlib.Decide.{dec_lt}
 use borrow.Author.Tests.{le-leb, lt-leb}
 use lib.Dec.{leb}
 use lib.ListN.{length, get_or, drop, drop_of_length-le}
@@ -31,8 +33,9 @@ laid_all words lent e =
     ap (λ (l : List ℕ). words ++ l) (drop_of_length-le lent h) ∙ append-nil words
 
 -- a number, or the most that counts
-pub count_over : (n most : ℕ) → most < n → most ≡ pick (leb n most) n most
-count_over n most h = rw (lt-leb n most h)
-
-pub count_under : (n most : ℕ) → n ≤ most → n ≡ pick (leb n most) n most
-count_under n most h = rw (le-leb n most h)
+pub count_within : (x n most : ℕ) → x ≡ min n most → x ≡ pick (leb n most) n most
+count_within x n most e =
+    elim (dec_lt most n) [
+      | yes g ↦ rw (lt-leb n most g) (omega (arith, e, g))
+      | no g ↦ rw (le-leb n most (omega (arith, g))) (omega (arith, e, g))
+    ]

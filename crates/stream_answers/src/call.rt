@@ -17,10 +17,7 @@ pub(crate) fn sheet_of(
 ) -> usize
     ensures { Puts (sheet_text (asked_walk (stream_of bytes.now) asked) (take (room_in bytes.now) words.old)) out.old at out.new result }
 {
-    let room = cursor::u32_at(bytes, 0) as usize;
-    if words.len() < room {
-        return sheet_in(out, at, behind(bytes, ROOM), asked, words);
-    }
+    let room = (cursor::u32_at(bytes, 0) as usize).min(words.len());
     sheet_in(out, at, behind(bytes, ROOM), asked, &mut words[..room])
 }
 
@@ -37,8 +34,8 @@ fn counted(out: &mut [u8], at: usize, c: Counted) -> usize
     ensures { Puts (count_text (count_answer c)) out.old at out.new result }
 {
     match c {
-        Counted::Count(n) => print::line(out, at, b"count", &[n as u64]),
-        Counted::Refused(r) => print::refused(out, at, r),
+        Ok(n) => print::line(out, at, b"count", &[n as u64]),
+        Err(r) => print::refused(out, at, r),
     }
 }
 
@@ -46,10 +43,8 @@ fn counted(out: &mut [u8], at: usize, c: Counted) -> usize
 pub(crate) fn behind(bytes: &[u8], front: usize) -> &[u8]
     ensures { result.now ≡ drop front bytes.now }
 {
-    if bytes.len() < front {
-        return &bytes[..0];
-    }
-    &bytes[front..]
+    let from = front.min(bytes.len());
+    &bytes[from..]
 }
 
 // The answer's word.

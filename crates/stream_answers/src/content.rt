@@ -5,7 +5,7 @@ ghost use Rattle.print.specs.Text.{ascii, Puts, hex_of, hex_half, hex_word, deci
 ghost use Rattle.stream_answers.specs.Content.{content_text, text_text, number_text, scalar_text, signed_text};
 
 use cursor::View;
-use value::{Content, Decoding, Scalar, Value};
+use value::{Content, Decoded, Scalar, Value};
 
 pub(crate) fn content(out: &mut [u8], at: usize, v: Value, s: &[u8]) -> usize
     ensures { Puts (content_text s.now v) out.old at out.new result }
@@ -37,15 +37,15 @@ fn bytes(out: &mut [u8], at: usize, letter: u8, part: &[u8]) -> usize
     print::hex(out, after, part)
 }
 
-fn number(out: &mut [u8], at: usize, d: Decoding) -> usize
+fn number(out: &mut [u8], at: usize, d: Option<Decoded>) -> usize
     ensures { Puts (number_text (decoding_answer d)) out.old at out.new result }
 {
     match d {
-        Decoding::Number(x) => {
+        Some(x) => {
             let v = x.value;
             scalar(out, at, x.bits, v)
         }
-        Decoding::NoNumber => at,
+        None => at,
     }
 }
 

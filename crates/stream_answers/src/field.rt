@@ -4,7 +4,7 @@ ghost use Rattle.stream_answers.specs.Content.{type_text, places_text, sized_tex
 ghost use Rattle.stream_answers.specs.Token.{values_from, instance_text};
 
 use crate::content;
-use tokens::{Instance, NextValue, Values};
+use tokens::{Instance, Values};
 use value::Value;
 
 // A field's type, in two hexadecimal digits.
@@ -64,7 +64,7 @@ pub(crate) fn instance(out: &mut [u8], at: usize, i: Instance, s: &[u8]) -> usiz
     values(out, d, Values::of(i), s)
 }
 
-// The values that are left, one after the other.
+// The values that are left, one after the other. A loop by hand: each read says where the next value is.
 fn values(out: &mut [u8], at: usize, first: Values, s: &[u8]) -> usize
     ensures { Puts (values_from first.left s.now first) out.old at out.new result }
 {
@@ -72,12 +72,12 @@ fn values(out: &mut [u8], at: usize, first: Values, s: &[u8]) -> usize
     let mut v = first;
     loop {
         match v.next(s) {
-            NextValue::Value(x, size, next) => {
+            Ok(Some((x, size, next))) => {
                 filled = sized(out, filled, x, size, next.at, s);
                 v = next;
             }
-            NextValue::Done => return filled,
-            NextValue::Refused(_) => return filled,
+            Ok(None) => return filled,
+            Err(_) => return filled,
         }
     }
 }

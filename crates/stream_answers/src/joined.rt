@@ -1,6 +1,6 @@
-// What the C calls for sheet and owner table answer on lent words, and what they leave there.
-ghost use Rattle.std.specs.Prelude.{◌≡◌, ◌≤◌, leb, take};
-ghost use Rattle.cursor.specs.Answer.{pick};
+// What the C calls for sheet and owner table answer on lent words, and what they leave there. Each call has its own two functions: one for
+// both would take the call as a closure and its contract as a predicate, which is no plainer.
+ghost use Rattle.std.specs.Prelude.{take};
 ghost use Rattle.body.specs.Verdict.{both};
 ghost use Rattle.print.specs.Text.{Puts, PutsSome};
 ghost use Rattle.stream_answers.specs.Modes.{asked_walk, room_in};
@@ -19,8 +19,8 @@ pub(crate) fn body_of(
 ) -> usize
     ensures { PutsSome (BodyCalled (asked_walk (body_stream bytes.now) asked) (both (take (room_in bytes.now) sheet.old) (take (table_room_in bytes.now) table.old))) out.old at out.new result }
 {
-    let n = at_most(cursor::u32_at(bytes, 0) as usize, sheet.len());
-    let m = at_most(cursor::u32_at(bytes, 4) as usize, table.len());
+    let n = (cursor::u32_at(bytes, 0) as usize).min(sheet.len());
+    let m = (cursor::u32_at(bytes, 4) as usize).min(table.len());
     body_in(
         out,
         at,
@@ -29,15 +29,6 @@ pub(crate) fn body_of(
         &mut sheet[..n],
         &mut table[..m],
     )
-}
-
-fn at_most(room: usize, there: usize) -> usize
-    ensures { (result ≡ pick (leb room there) room there) × (result ≤ there) }
-{
-    if room <= there {
-        return room;
-    }
-    there
 }
 
 fn body_in(
@@ -75,8 +66,8 @@ pub(crate) fn bodies_of(
 ) -> usize
     ensures { PutsSome (BodiesCalled (body_stream bytes.now) asked (both (take (room_in bytes.now) sheet.old) (take (table_room_in bytes.now) table.old))) out.old at out.new result }
 {
-    let n = at_most(cursor::u32_at(bytes, 0) as usize, sheet.len());
-    let m = at_most(cursor::u32_at(bytes, 4) as usize, table.len());
+    let n = (cursor::u32_at(bytes, 0) as usize).min(sheet.len());
+    let m = (cursor::u32_at(bytes, 4) as usize).min(table.len());
     bodies_in(
         out,
         at,

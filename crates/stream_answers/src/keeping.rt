@@ -39,10 +39,8 @@ fn load(bytes: &[u8], words: &mut [u64])
     requires { length words.old ≤ most_given }
     ensures { words.new ≡ stored_words (length words.old) bytes.now 8 }
 {
-    let mut i: usize = 0;
-    while i < words.len() {
+    for i in 0..words.len() {
         words[i] = cursor::u64_at(bytes, KEPT + 8 * i);
-        i += 1;
     }
 }
 
@@ -65,10 +63,7 @@ fn in_room(
 ) -> usize
     ensures { Puts (kept_text narrow (asked_walk (kept_stream bytes.now) asked) given.now (take (room_in bytes.now) words.old)) out.old at out.new result }
 {
-    let room = cursor::u32_at(bytes, 0) as usize;
-    if words.len() < room {
-        return kept_in(out, at, stream_of(bytes), asked, narrow, given, words);
-    }
+    let room = (cursor::u32_at(bytes, 0) as usize).min(words.len());
     kept_in(
         out,
         at,
@@ -96,6 +91,7 @@ fn kept_in(
     call::sheet_line(out, end, words)
 }
 
+// A case's flag says which of the two calls runs: an `if` is plainer here than a closure that is passed down.
 fn moved(s: &[u8], asked: Asked, narrow: bool, given: &[u64], words: &mut [u64]) -> u64
     ensures value { result ≡ packed_of (move_answer narrow (asked_walk s.now asked) given.now words.old) }
     ensures words_after { words.new ≡ move_words narrow (asked_walk s.now asked) given.now words.old }
@@ -113,20 +109,12 @@ fn moved(s: &[u8], asked: Asked, narrow: bool, given: &[u64], words: &mut [u64])
 fn given_count(bytes: &[u8]) -> usize
     ensures { (result ≡ given_count bytes.now) × (result ≤ most_given) }
 {
-    let m = cursor::u32_at(bytes, 4) as usize;
-    if MOST_GIVEN < m {
-        return MOST_GIVEN;
-    }
-    m
+    (cursor::u32_at(bytes, 4) as usize).min(MOST_GIVEN)
 }
 
 // The stream stands behind them.
 fn stream_of(bytes: &[u8]) -> &[u8]
     ensures { result.now ≡ kept_stream bytes.now }
 {
-    let front = KEPT + 8 * given_count(bytes);
-    if bytes.len() < front {
-        return &bytes[..0];
-    }
-    &bytes[front..]
+    call::behind(bytes, KEPT + 8 * given_count(bytes))
 }

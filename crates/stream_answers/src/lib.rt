@@ -1,6 +1,7 @@
 // The answers of the batch's modes that read a token stream: the walk (T), the single instance (S), the owner table (O), the sheet by itself
 // (C), sheet and owner table by one C call (B) and the moves of a kept sheet (K). Each function puts its lines into a lent buffer, behind what
 // is there.
+// The buffer and how full it is stay two parameters: the public calls of these crates take them so, and the contracts read both.
 #![tactic(auto)]
 
 mod call;
@@ -20,7 +21,7 @@ ghost use Rattle.stream_answers.specs.Body.{lent_both, body_stream, BodyCalled, 
 ghost use Rattle.stream_answers.specs.Kept.{given_words, kept_stream, kept_text};
 
 use cursor::Counted;
-use tokens::{Ends, Flags, SingleInstance, Window};
+use tokens::Flags;
 
 // What of a stream is asked for, and how it is read.
 #[derive(Clone, Copy)]
@@ -49,8 +50,8 @@ pub fn walk(out: &mut [u8], at: usize, s: &[u8], asked: Asked) -> usize
     ensures { Puts (walk_text s.now asked.start asked.length asked.flags) out.old at out.new result }
 {
     match tokens::window_of(s, asked.start, asked.length) {
-        Window::From(from, end) => token::lines(out, at, s, from, end, asked.flags),
-        Window::Refused(r) => print::refused(out, at, r),
+        Ok((from, end)) => token::lines(out, at, s, from, end, asked.flags),
+        Err(r) => print::refused(out, at, r),
     }
 }
 
@@ -62,22 +63,22 @@ pub fn single(out: &mut [u8], at: usize, s: &[u8], consumed: usize) -> usize
     ends_line(out, a, tokens::ends_stream(s, consumed))
 }
 
-fn start_line(out: &mut [u8], at: usize, found: SingleInstance) -> usize
+fn start_line(out: &mut [u8], at: usize, found: Option<usize>) -> usize
     ensures { Puts (single_text (single_answer found)) out.old at out.new result }
 {
     match found {
-        SingleInstance::At(n) => print::line(out, at, b"single", &[n as u64]),
-        SingleInstance::Nothing => print::text(out, at, b"single none\n"),
+        Some(n) => print::line(out, at, b"single", &[n as u64]),
+        None => print::text(out, at, b"single none\n"),
     }
 }
 
-fn ends_line(out: &mut [u8], at: usize, e: Ends) -> usize
+fn ends_line(out: &mut [u8], at: usize, e: Option<bool>) -> usize
     ensures { Puts (ends_text (ends_answer e)) out.old at out.new result }
 {
     match e {
-        Ends::Yes => print::text(out, at, b"ends yes\n"),
-        Ends::No => print::text(out, at, b"ends no\n"),
-        Ends::Beyond => print::text(out, at, b"ends none\n"),
+        Some(true) => print::text(out, at, b"ends yes\n"),
+        Some(false) => print::text(out, at, b"ends no\n"),
+        None => print::text(out, at, b"ends none\n"),
     }
 }
 
@@ -95,8 +96,8 @@ pub fn owners(out: &mut [u8], at: usize, s: &[u8], asked: Asked) -> usize
         &mut sheet,
         &mut table,
     ) {
-        Counted::Count(n) => owner_line(out, at, &table[..n]),
-        Counted::Refused(r) => print::refused(out, at, r),
+        Ok(n) => owner_line(out, at, &table[..n]),
+        Err(r) => print::refused(out, at, r),
     }
 }
 

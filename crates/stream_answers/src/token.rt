@@ -9,9 +9,9 @@ ghost use Rattle.stream_answers.specs.Walk.{tokens_text, last_text};
 use crate::field;
 use cursor::View;
 use name::{Name, Soundness};
-use tokens::{Flags, Held, Stepped, Token};
+use tokens::{Flags, Held, Token};
 
-// The walk from a position on.
+// The walk from a position on. A loop by hand: each step says where the next token is.
 pub(crate) fn lines(
     out: &mut [u8],
     at: usize,
@@ -27,13 +27,13 @@ pub(crate) fn lines(
     let mut n: usize = 0;
     loop {
         match tokens::step(s, here, end, flags) {
-            Stepped::Token(t, next) => {
+            Ok((Some(t), next)) => {
                 filled = line(out, filled, t, s);
                 here = next.at;
                 n += 1;
             }
-            Stepped::End(_) => return print::line(out, filled, b"ok", &[n as u64]),
-            Stepped::Refused(r) => return print::refused(out, filled, r),
+            Ok((None, _)) => return print::line(out, filled, b"ok", &[n as u64]),
+            Err(r) => return print::refused(out, filled, r),
         }
     }
 }

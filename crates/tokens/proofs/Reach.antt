@@ -25,7 +25,7 @@ use Rattle.tokens.specs.Token.{type_at, substitution_at, named_at, open_at, text
 use Rattle.tokens.specs.Instance as I
 use Rattle.tokens.specs.Table.{gist_at}
 use Rattle.tokens.specs.Walk.{Met, handed, header, over, header_at, turn_at}
-use Rattle.tokens.specs.Pieces.{EndsAfter, dependency_at, list_size_at, met_token, met_header, turn_after_byte}
+use Rattle.tokens.specs.Pieces.{dependency_at, list_size_at, met_token, met_header, turn_after_byte}
 use Rattle.tokens.specs.declared.Flags.{Flags}
 use Rattle.tokens.specs.declared.plain.Gist.{Gist}
 use Rattle.tokens.proofs.Table.{by_line}
@@ -198,10 +198,6 @@ Follows at high (refused k p) = Unit {0}
 
 pub byte_follows : (s : List ℕ) (at : ℕ) → Follows at (length s) (number_at s at 1)
 byte_follows s at = either (Follows at (length s)) (within s at 1) _ _ (λ w. (refl, leb-true (at + 1) (length s) w)) (λ w. tt {0})
-
-pub ends : (place high : ℕ) (a : Answer Gist) → Between (place + 1) high a → EndsAfter place a
-ends place high (given g n) h = omega (arith, h.0)
-ends place high (refused k p) h = tt {0}
 
 -- a turn or a step from a position: a token stands at it or after it, and it ends after its place, within the stream, where its length
 -- says, and its kind is from 1 to 13; a header ends after the position

@@ -1,5 +1,5 @@
 -- A table or a run of values, one at a time. Assumes nothing.
-use mathlib.Core.Path.{◌≡◌, refl, ap, subst}
+use mathlib.Core.Path.{◌≡◌, refl, ap, ◌∙◌}
 use mathlib.Core.List.{List}
 use Prim.Native.Nat.{ℕ, zero, suc, ◌+◌, ◌-◌, ◌*◌, ◌≤◌, ◌<◌}
 use native.Mathlib.Omega.{arith}
@@ -15,33 +15,36 @@ use Rattle.tokens.specs.Instance.{definition_at, descriptor_at, table_at, instan
 use Rattle.tokens.specs.Pieces.{descriptor_after_size, descriptor_after_type, head_after_count}
 use Rattle.tokens.specs.declared.Instance.{Instance}
 
--- a table: its first descriptor, and the rest
-pub table_on : (s : List ℕ) (at n : ℕ) (a : Answer Unit) → 0 < n → descriptor_at s at ≡ a → table_at s at n ≡ (a then λ _ next. table_at s next (n - 1))
+-- a table of which i of n descriptors are read: the next one, and the rest
+pub table_on : (s : List ℕ) (at n i : ℕ) (a : Answer Unit) → i < n → descriptor_at s at ≡ a
+    → table_at s at (n - i) ≡ (a then λ _ next. table_at s next (n - (i + 1)))
 unfolding table_at
-table_on s at zero a h e = absurd (omega arith)
-table_on s at (suc n) a h e =
-    let m : n ≡ suc n - 1 = omega arith in
-    subst (λ (k : ℕ). table_at s at (suc n) ≡ (a then λ _ next. table_at s next k)) m (ap (λ (x : Answer Unit). x then λ _ next. table_at s next n) e)
+table_on s at n i a h e =
+    let m : n - i ≡ suc (n - (i + 1)) = omega arith in
+    ap (table_at s at) m ∙ ap (λ (x : Answer Unit). x then λ _ next. table_at s next (n - (i + 1))) e
 
-pub table_none : (s : List ℕ) (at n : ℕ) → n ≤ 0 → table_at s at n ≡ given tt at
+pub table_none : (s : List ℕ) (at n i : ℕ) → n ≤ i → table_at s at (n - i) ≡ given tt at
 unfolding table_at
-table_none s at zero h = refl
-table_none s at (suc n) h = absurd (omega arith)
+table_none s at n i h =
+    let m : n - i ≡ 0 = omega arith in
+    ap (table_at s at) m
 
--- values: the first, and the rest
-pub values_on : (s : List ℕ) (table at n : ℕ) (a : Answer Value) → 0 < n → value_in s table at ≡ a
-    → values_at s table at n ≡ (a then λ _ next. values_at s (table + 4) next (n - 1))
+-- values of which i of n are read: the next one, and the rest
+pub values_on : (s : List ℕ) (first at n i : ℕ) (a : Answer Value) → i < n → value_in s (first + 4 * i) at ≡ a
+    → values_at s (first + 4 * i) at (n - i) ≡ (a then λ _ next. values_at s (first + 4 * (i + 1)) next (n - (i + 1)))
 unfolding values_at
-values_on s table at zero a h e = absurd (omega arith)
-values_on s table at (suc n) a h e =
-    let m : n ≡ suc n - 1 = omega arith in
-    subst (λ (k : ℕ). values_at s table at (suc n) ≡ (a then λ _ next. values_at s (table + 4) next k)) m
-    (ap (λ (x : Answer Value). x then λ _ next. values_at s (table + 4) next n) e)
+values_on s first at n i a h e =
+    let m : n - i ≡ suc (n - (i + 1)) = omega arith in
+    let k : first + 4 * i + 4 ≡ first + 4 * (i + 1) = omega arith in
+    ap (values_at s (first + 4 * i) at) m
+    ∙ ap (λ (t : ℕ). value_in s (first + 4 * i) at then λ _ next. values_at s t next (n - (i + 1))) k
+    ∙ ap (λ (x : Answer Value). x then λ _ next. values_at s (first + 4 * (i + 1)) next (n - (i + 1))) e
 
-pub values_none : (s : List ℕ) (table at n : ℕ) → n ≤ 0 → values_at s table at n ≡ given tt at
+pub values_none : (s : List ℕ) (table at n i : ℕ) → n ≤ i → values_at s table at (n - i) ≡ given tt at
 unfolding values_at
-values_none s table at zero h = refl
-values_none s table at (suc n) h = absurd (omega arith)
+values_none s table at n i h =
+    let m : n - i ≡ 0 = omega arith in
+    ap (values_at s table at) m
 
 -- where the value step gives a value its descriptor stands in the stream
 abbrev pub Described : ℕ → ℕ → Answer Value → Type 0

@@ -1,4 +1,7 @@
 -- Template instances and their values. Document 01, "Token walk" and "Values".
+use Rattle.std.specs.Prelude as Std
+use Rattle.std.specs.Prelude.{Ok, Err, Some, None, Option}
+use Rattle.cursor.specs.declared.Refusal.{Refusal}
 use Rattle.std.specs.Prelude.{false, List, ℕ, zero, suc, ◌+◌, ◌-◌, eqb, drop}
 use Rattle.cursor.specs.Answer.{Answer, given, refused, ◌then◌, pick, Result, gives, refuses, Maybe, just, nothing}
 use Rattle.cursor.specs.Reads.{within, number_of, number_at, take_at, set_to}
@@ -11,8 +14,6 @@ use Rattle.tokens.specs.declared.plain.Gist.{Gist}
 use Rattle.tokens.specs.declared.Held.TheVariants as H
 use Rattle.tokens.specs.declared.Instance.{Instance}
 use Rattle.tokens.specs.declared.Values.{Values}
-use Rattle.tokens.specs.declared.NextValue.{NextValue}
-use Rattle.tokens.specs.declared.NextValue.TheVariants as N
 
 -- "If the position equals the offset: u32, 16 byte GUID, u32 n, then n bytes skipped."; else there is no GUID
 abbrev pub definition_at : List ℕ → ℕ → ℕ → Answer Part
@@ -80,10 +81,10 @@ pub record ValueNext : Type 0 where
   pub rest : Values
 
 -- the next value, none where all are read, or a refusal's number and place
-abbrev pub next_answer : NextValue → Result (Maybe ValueNext)
-next_answer (N.Value v size rest) = gives (just (record { value = v; size = size; rest = rest }))
-next_answer N.Done = gives nothing
-next_answer (N.Refused r) = refuses r.number r.place
+abbrev pub next_answer : Std.Result (Option (Value × ℕ × Values)) Refusal → Result (Maybe ValueNext)
+next_answer (Ok (Some (v, size, rest))) = gives (just (record { value = v; size = size; rest = rest }))
+next_answer (Ok None) = gives nothing
+next_answer (Err r) = refuses r.number r.place
 
 -- a step over an instance's values. Of an instance that was read, descriptors and values stand in the stream; a made-up descriptor that
 -- does not has too few bytes, and a made-up position may be past the end

@@ -1,46 +1,34 @@
--- What private functions answer: only these cite the definitions here. Each is a piece of a definition of another file, from a read
--- on, and the proofs show that the pieces make the whole.
-use Rattle.std.specs.Prelude.{◌≡◌, Bool, true, false, ◌||◌, List, ℕ, ◌+◌, ◌<◌, eqb}
+-- What private functions answer, and pieces that proofs speak of: no public contract cites the definitions here. Each is a piece of a
+-- definition of another file, from a read on, and the proofs show that the pieces make the whole.
+use Rattle.std.specs.Prelude.{Ok, Err, Result, Some, None, Option}
+use Rattle.cursor.specs.declared.Cursor.{Cursor}
+use Rattle.cursor.specs.declared.Refusal.{Refusal}
+use Rattle.std.specs.Prelude.{◌≡◌, Bool, true, false, ◌||◌, List, ℕ, eqb}
 use Rattle.cursor.specs.Answer.{Answer, given, refused, ◌then◌, pick}
 use Rattle.cursor.specs.Answers.{refusal}
-use Rattle.cursor.specs.Reads.{number_at, take_at, set_to}
+use Rattle.cursor.specs.Reads.{number_at}
 use Rattle.cursor.specs.Refusals.{unknown_token}
 use Rattle.cursor.specs.declared.Part.{Part}
 use Rattle.name.specs.Name.{name_at}
 use Rattle.name.specs.declared.Name.{Name}
-use Rattle.tokens.specs.Token.{instance_kind, open_kind, close_start_kind, close_empty_kind, close_element_kind, pi_data_kind, cdata_kind, substitution_kind, gist, named_gist, bare_at, char_ref_at, type_at, substitution_at, text_token_at, value_token_at}
-use Rattle.tokens.specs.Instance.{definition_at, table_at, values_at, instance_at}
+use Rattle.tokens.specs.Token.{open_kind, close_start_kind, close_empty_kind, close_element_kind, pi_data_kind, cdata_kind, named_gist, bare_at, char_ref_at, type_at, substitution_at, text_token_at, value_token_at}
+use Rattle.tokens.specs.Instance.{definition_at, table_at, instance_at}
 use Rattle.tokens.specs.Table.{gist_at}
 use Rattle.tokens.specs.Sight.{Seen, begun, met}
 use Rattle.tokens.specs.Walk.{Met, handed, header, over, token_of, header_at}
 use Rattle.tokens.specs.declared.Flags.{Flags}
-use Rattle.tokens.specs.declared.Held.TheVariants as H
 use Rattle.tokens.specs.declared.Instance.{Instance}
-use Rattle.tokens.specs.declared.plain.Front.{Front}
-use Rattle.tokens.specs.declared.plain.Front.TheVariants as F
 use Rattle.tokens.specs.declared.plain.Gist.{Gist}
-use Rattle.tokens.specs.declared.plain.GistRead.{GistRead}
-use Rattle.tokens.specs.declared.plain.GistRead.TheVariants as G
 use Rattle.tokens.specs.declared.plain.Lead.{Lead}
-use Rattle.tokens.specs.declared.template.InstanceRead.{InstanceRead}
-use Rattle.tokens.specs.declared.template.InstanceRead.TheVariants as I
 use Rattle.tokens.specs.declared.walking.Turned.{Turned}
 use Rattle.tokens.specs.declared.walking.Turned.TheVariants as T
 
 -- the private answer enums in document 01's terms
-abbrev pub gist_answer : GistRead → Answer Gist
-gist_answer (G.Read g c) = given g c.at
-gist_answer (G.Refused r) = refusal r
-
-abbrev pub instance_answer : InstanceRead → Answer Instance
-instance_answer (I.Read i c) = given i c.at
-instance_answer (I.Refused r) = refusal r
-
-abbrev pub turn_answer : Turned → Answer Met
-turn_answer (T.Token t c) = given (handed t) c.at
-turn_answer (T.Header c) = given header c.at
-turn_answer (T.Over c) = given over c.at
-turn_answer (T.Refused r) = refusal r
+abbrev pub turn_answer : Result (Turned × Cursor) Refusal → Answer Met
+turn_answer (Ok (T.Token t, c)) = given (handed t) c.at
+turn_answer (Ok (T.Header, c)) = given header c.at
+turn_answer (Ok (T.Over, c)) = given over c.at
+turn_answer (Err r) = refusal r
 
 -- a turn that leaves an instance's values: after the head, and after a turn
 abbrev pub sight_of_head : Answer Instance → Answer Seen
@@ -65,23 +53,19 @@ named_of l name = named_gist l.kind l.number l.flag l.announced name
 abbrev pub list_size_at : List ℕ → Bool → ℕ → Answer ℕ
 list_size_at s announced at = pick announced (number_at s at 4) (given 0 at)
 
-abbrev pub named_after_name : List ℕ → Lead → Name → ℕ → Answer Gist
-named_after_name s l name at =
-    list_size_at s l.announced at then λ _ at.
-    given (named_of l name) at
-
 abbrev pub named_after_lead : List ℕ → Bool → Lead → ℕ → Answer Gist
 named_after_lead s inline l at =
     name_at s at inline then λ name at.
-    named_after_name s l name at
+    list_size_at s l.announced at then λ _ at.
+    given (named_of l name) at
 
 -- what a front leads to, if a token without a name is what is said
-abbrev pub front_to : List ℕ → Bool → Answer Gist → Front → Answer Gist
-front_to s inline nameless (F.Named l c) = named_after_lead s inline l c.at
-front_to s inline nameless F.Nameless = nameless
-front_to s inline nameless (F.Refused r) = refusal r
+abbrev pub front_to : List ℕ → Bool → Answer Gist → Result (Option (Lead × Cursor)) Refusal → Answer Gist
+front_to s inline nameless (Ok (Some (l, c))) = named_after_lead s inline l c.at
+front_to s inline nameless (Ok None) = nameless
+front_to s inline nameless (Err r) = refusal r
 
-abbrev pub LeadsTo : List ℕ → Bool → Front → Answer Gist → Type 0
+abbrev pub LeadsTo : List ℕ → Bool → Result (Option (Lead × Cursor)) Refusal → Answer Gist → Type 0
 LeadsTo s inline front a = (nameless : Answer Gist) → front_to s inline nameless front ≡ a
 
 -- the token table without the tokens with a name; from "02 close start", "05/45 value" and "0D, 0E substitution" on
@@ -109,12 +93,6 @@ table_from02 s b at =
 unfoldable pub nameless_at : List ℕ → ℕ → ℕ → Answer Gist
 nameless_at s b at = pick (eqb b 0x0C) (instance_at s at) (table_from02 s b at)
 
--- a substitution, after its number
-abbrev pub substitution_after_number : List ℕ → Bool → ℕ → ℕ → Answer Gist
-substitution_after_number s optional number at =
-    type_at s at then λ _ at.
-    given (gist substitution_kind number optional H.Nothing) at
-
 -- an open token's numbers before its name: its dependency, which is handed on, and a u32
 abbrev pub dependency_at : List ℕ → Bool → ℕ → Answer ℕ
 dependency_at s carried at = pick carried (number_at s at 2) (given 0xFFFF at)
@@ -129,27 +107,6 @@ numbers_at s carried at =
     dependency_at s carried at then λ dependency at.
     numbers_after_dependency s dependency at
 
--- a definition in place, and what comes after each of its reads
-abbrev pub definition_after_bytes : List ℕ → Part → ℕ → ℕ → Answer Part
-definition_after_bytes s guid n at =
-    set_to s (at + n) then λ _ at.
-    given guid at
-
-abbrev pub definition_after_guid : List ℕ → Part → ℕ → Answer Part
-definition_after_guid s guid at =
-    number_at s at 4 then λ n at.
-    definition_after_bytes s guid n at
-
-abbrev pub definition_after_link : List ℕ → ℕ → Answer Part
-definition_after_link s at =
-    take_at s at 16 then λ guid at.
-    definition_after_guid s guid at
-
-abbrev pub definition_in_place : List ℕ → ℕ → Answer Part
-definition_in_place s at =
-    number_at s at 4 then λ _ at.
-    definition_after_link s at
-
 -- a descriptor, after its size and after its type
 abbrev pub descriptor_after_type : List ℕ → ℕ → Answer Unit
 descriptor_after_type s at =
@@ -161,7 +118,7 @@ descriptor_after_size s at =
     type_at s at then λ _ at.
     descriptor_after_type s at
 
--- an instance's head, after each of its reads
+-- an instance's head, after its last reads
 abbrev pub head_after_count : List ℕ → ℕ → ℕ → Part → ℕ → ℕ → Answer Instance
 head_after_count s id offset guid count table =
     table_at s table count then λ _ values.
@@ -177,33 +134,6 @@ head_after_offset s id offset at =
     definition_at s offset at then λ guid at.
     head_after_definition s id offset guid at
 
-abbrev pub head_after_id : List ℕ → ℕ → ℕ → Answer Instance
-head_after_id s id at =
-    number_at s at 4 then λ offset at.
-    head_after_offset s id offset at
-
-abbrev pub head_after_byte : List ℕ → ℕ → Answer Instance
-head_after_byte s at =
-    number_at s at 4 then λ id at.
-    head_after_id s id at
-
--- an instance, after its head
-abbrev pub instance_after_head : List ℕ → Instance → ℕ → Answer Gist
-instance_after_head s i at =
-    values_at s i.table at i.count then λ _ at.
-    given (gist instance_kind 0 false (H.Instance i)) at
-
--- a fragment header, after its first byte and after its second
-abbrev pub header_after_minor : List ℕ → ℕ → Answer Unit
-header_after_minor s at =
-    number_at s at 1 then λ _ at.
-    given tt at
-
-abbrev pub header_after_major : List ℕ → ℕ → Answer Unit
-header_after_major s at =
-    number_at s at 1 then λ _ at.
-    header_after_minor s at
-
 -- a turn after its byte: what it meets of a header, and of a token
 abbrev pub met_header : Answer Unit → Answer Met
 met_header a = a then λ _ at. given header at
@@ -216,8 +146,3 @@ turn_after_byte s f place b at =
     pick (eqb b 0x00) (given over at)
     (pick (eqb b 0x0F) (met_header (header_at s at))
     (met_token place (gist_at s f b at)))
-
--- what was read ends after a place
-abbrev pub EndsAfter : {A : Type 0} → ℕ → Answer A → Type 0
-EndsAfter place (given a next) = place < next
-EndsAfter place (refused k p) = Unit {0}

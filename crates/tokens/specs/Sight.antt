@@ -1,5 +1,8 @@
 -- A turn of the walk that leaves the values of an instance to its caller. Document 02, P9: "judged when its value has been read", so that what
 -- a value holds is looked at before the next value is read.
+use Rattle.std.specs.Prelude.{Ok, Err, Result}
+use Rattle.cursor.specs.declared.Cursor.{Cursor}
+use Rattle.cursor.specs.declared.Refusal.{Refusal}
 use Rattle.std.specs.Prelude.{Bool, ◌&&◌, List, ℕ, ◌+◌, eqb, ltb}
 use Rattle.cursor.specs.Answer.{Answer, given, ◌then◌, pick}
 use Rattle.cursor.specs.Answers.{refusal}
@@ -16,12 +19,12 @@ pub data Seen : Type 0 where
   begun : Instance → Seen
   met : Met → Seen
 
-abbrev pub sight_answer : Sight → Answer Seen
-sight_answer (S.Token t c) = given (met (handed t)) c.at
-sight_answer (S.Instance i c) = given (begun i) c.at
-sight_answer (S.Header c) = given (met header) c.at
-sight_answer (S.Over c) = given (met over) c.at
-sight_answer (S.Refused r) = refusal r
+abbrev pub sight_answer : Result (Sight × Cursor) Refusal → Answer Seen
+sight_answer (Ok (S.Token t, c)) = given (met (handed t)) c.at
+sight_answer (Ok (S.Instance i, c)) = given (begun i) c.at
+sight_answer (Ok (S.Header, c)) = given (met header) c.at
+sight_answer (Ok (S.Over, c)) = given (met over) c.at
+sight_answer (Err r) = refusal r
 
 -- "0C instance": its byte stands at the position, where a token may begin
 abbrev pub instance_there : List ℕ → ℕ → ℕ → Bool

@@ -1,4 +1,8 @@
 -- The walk: a turn, a step and the list of tokens. Document 01, "Token walk".
+use Rattle.std.specs.Prelude as Std
+use Rattle.std.specs.Prelude.{Ok, Err, Some, None, Option}
+use Rattle.cursor.specs.declared.Cursor.{Cursor}
+use Rattle.cursor.specs.declared.Refusal.{Refusal}
 use Rattle.std.specs.Prelude.{List, [], ◌∷◌, ℕ, zero, suc, ◌+◌, ◌-◌, eqb, leb, ltb, length}
 use Rattle.cursor.specs.Answer.{Answer, given, refused, Result, gives, refuses, ◌then◌, pick}
 use Rattle.cursor.specs.Answers.{refusal}
@@ -8,10 +12,6 @@ use Rattle.tokens.specs.Table.{gist_at}
 use Rattle.tokens.specs.declared.Flags.{Flags}
 use Rattle.tokens.specs.declared.plain.Gist.{Gist}
 use Rattle.tokens.specs.declared.Token.{Token}
-use Rattle.tokens.specs.declared.Stepped.{Stepped}
-use Rattle.tokens.specs.declared.Stepped.TheVariants as S
-use Rattle.tokens.specs.declared.Window.{Window}
-use Rattle.tokens.specs.declared.Window.TheVariants as W
 
 -- what the walk meets: a token to hand on, a fragment header, or its end
 pub data Met : Type 0 where
@@ -19,10 +19,10 @@ pub data Met : Type 0 where
   header : Met
   over : Met
 
-abbrev pub step_answer : Stepped → Answer Met
-step_answer (S.Token t c) = given (handed t) c.at
-step_answer (S.End c) = given over c.at
-step_answer (S.Refused r) = refusal r
+abbrev pub step_answer : Std.Result (Option Token × Cursor) Refusal → Answer Met
+step_answer (Ok (Some t, c)) = given (handed t) c.at
+step_answer (Ok (None, c)) = given over c.at
+step_answer (Err r) = refusal r
 
 -- "Place is the token byte's offset; length runs from there to where the walk reads on, be it a 0F or 00."
 abbrev pub token_of : ℕ → Gist → ℕ → Token
@@ -100,9 +100,9 @@ abbrev pub window_of : List ℕ → ℕ → ℕ → Result (ℕ × ℕ)
 window_of s start len =
     pick (leb (length s) 65536) (pick (leb start (length s)) (gives (start, start + len)) (refuses past_end start)) (refuses wrong_length 0)
 
-abbrev pub window_answer : Window → Result (ℕ × ℕ)
-window_answer (W.From start end) = gives (start, end)
-window_answer (W.Refused r) = refuses r.number r.place
+abbrev pub window_answer : Std.Result (ℕ × ℕ) Refusal → Result (ℕ × ℕ)
+window_answer (Ok (start, end)) = gives (start, end)
+window_answer (Err r) = refuses r.number r.place
 
 -- the walk of a stream, from its window
 abbrev pub walk_in : List ℕ → Flags → Result (ℕ × ℕ) → Walked

@@ -8,16 +8,15 @@ mod template;
 mod walking;
 
 ghost use Rattle.std.specs.Prelude.{◌≡◌};
+ghost use Rattle.cursor.specs.Answers.{read_answer};
 ghost use Rattle.tokens.specs.Single.{single_answer, single_of, ends_answer, ends_of};
 ghost use Rattle.tokens.specs.Instance.{values_of, next_answer, next_of};
 ghost use Rattle.tokens.specs.Sight.{sight_answer, instance_there, sight_at};
-ghost use Rattle.tokens.specs.Pieces.{instance_answer, turn_answer, sight_of_head, sight_of_turn};
 ghost use Rattle.tokens.specs.Walk.{step_answer, step_at, window_answer, window_of};
 
-use cursor::{Cursor, Part, Refusal, View};
+use cursor::{Cursor, Part, Read, Refusal, View};
 use name::Name;
-use template::InstanceRead;
-use value::{Value, ValueRead};
+use value::Value;
 use walking::Turned;
 
 // How a stream is read: whether open tokens carry dependencies, and whether names stand inline.
@@ -65,29 +64,14 @@ pub struct Token {
     pub held: Held,
 }
 
-#[derive(Clone, Copy)]
-pub enum Stepped {
-    Token(Token, Cursor),
-    End(Cursor),
-    Refused(Refusal),
-}
-
 // What one turn of a walk sees where the values of an instance are left to the caller: an instance's head, with its whole table, or what any
 // turn meets.
 #[derive(Clone, Copy)]
 pub enum Sight {
-    Token(Token, Cursor),
-    Instance(Instance, Cursor),
-    Header(Cursor),
-    Over(Cursor),
-    Refused(Refusal),
-}
-
-// Where a walk reads: its first position, and the first at which no token begins.
-#[derive(Clone, Copy)]
-pub enum Window {
-    From(usize, usize),
-    Refused(Refusal),
+    Token(Token),
+    Instance(Instance),
+    Header,
+    Over,
 }
 
 // Where a walk over an instance's values stands: the next descriptor, how many are left, and the next value.
@@ -98,29 +82,7 @@ pub struct Values {
     pub at: usize,
 }
 
-#[derive(Clone, Copy)]
-pub enum NextValue {
-    // The value, its descriptor's size, and where the walk over the values goes on.
-    Value(Value, u16, Values),
-    Done,
-    Refused(Refusal),
-}
-
-// Where the instance of a single instance's stream starts, after its token byte.
-#[derive(Clone, Copy)]
-pub enum SingleInstance {
-    At(usize),
-    Nothing,
-}
-
-// Whether a stream ends after what was read of it.
-#[derive(Clone, Copy)]
-pub enum Ends {
-    Yes,
-    No,
-    Beyond,
-}
-
+// (The kinds are numbers and no enum: what packs and shows a kind in `sheet` takes every number, and says so of each.)
 impl Token {
     pub const INSTANCE: u8 = 1;
 
@@ -149,114 +111,82 @@ impl Token {
     pub const SUBSTITUTION: u8 = 13;
 }
 
-// Where a single instance starts.
-pub fn single_instance_offset(s: &[u8]) -> SingleInstance
+// Where the instance of a single instance's stream starts, after its token byte.
+#[tactic(auto, unfolding(crate::specs::Single::single_of))]
+pub fn single_instance_offset(s: &[u8]) -> Option<usize>
     ensures { single_answer result ≡ single_of s.now }
 {
     let first = cursor::u8_at(s, 0);
     if first == 0x0C {
-        return SingleInstance::At(1);
+        return Some(1);
     }
-    if s.len() < 6 {
-        return SingleInstance::Nothing;
+    if s.len() < 6 || first != 0x0F || cursor::u8_at(s, 4) != 0x0C {
+        return None;
     }
-    if first != 0x0F {
-        return SingleInstance::Nothing;
-    }
-    if cursor::u8_at(s, 4) != 0x0C {
-        return SingleInstance::Nothing;
-    }
-    SingleInstance::At(5)
+    Some(5)
 }
 
-// Whether a single instance's stream ends after the bytes that were read.
-pub fn ends_stream(s: &[u8], consumed: usize) -> Ends
+// Whether a single instance's stream ends after the bytes that were read; of more bytes than it has nothing is said.
+#[tactic(auto, unfolding(crate::specs::Single::ends_of))]
+pub fn ends_stream(s: &[u8], consumed: usize) -> Option<bool>
     ensures { ends_answer result ≡ ends_of s.now consumed }
 {
     if s.len() < consumed {
-        return Ends::Beyond;
+        return None;
     }
-    if s.len() == consumed {
-        return Ends::Yes;
-    }
-    if cursor::u8_at(s, consumed) == 0 {
-        return Ends::Yes;
-    }
-    Ends::No
+    Some(s.len() == consumed || cursor::u8_at(s, consumed) == 0)
 }
 
-// One step: the next token from a position on and where the walk reads on, or the walk's end. `end` is start plus length.
-pub fn step(s: &[u8], at: usize, end: usize, flags: Flags) -> Stepped
+// One step: the next token from a position on, none at the walk's end, and where the walk reads on. `end` is start plus length.
+// (A loop by hand: where it goes on is what was read. It has one turn in it, so that a turn is compiled into it once.)
+pub fn step(s: &[u8], at: usize, end: usize, flags: Flags) -> Read<Option<Token>>
     ensures { step_answer result ≡ step_at s.now end flags at }
 {
     let mut here = at;
     loop {
-        match walking::turn(s, here, end, flags) {
-            Turned::Token(t, next) => return Stepped::Token(t, next),
-            Turned::Header(next) => here = next.at,
-            Turned::Over(c) => return Stepped::End(c),
-            Turned::Refused(r) => return Stepped::Refused(r),
+        let (met, next) = walking::turn(s, here, end, flags)?;
+        match met {
+            Turned::Token(t) => return Ok((Some(t), next)),
+            Turned::Header => here = next.at,
+            Turned::Over => return Ok((None, next)),
         }
     }
 }
 
 // One turn of the walk, in which an instance's head and whole table are read and none of its values.
-pub fn look(s: &[u8], at: usize, end: usize, flags: Flags) -> Sight
+pub fn look(s: &[u8], at: usize, end: usize, flags: Flags) -> Read<Sight>
     ensures { sight_answer result ≡ sight_at s.now end flags at }
 {
     if instance_there(s, at, end) {
-        return begun(template::head(Cursor { at: at + 1 }, s));
+        let (i, next) = template::head(Cursor { at: at + 1 }, s)?;
+        return Ok((Sight::Instance(i), next));
     }
-    met(walking::turn(s, at, end, flags))
+    let (met, next) = walking::turn(s, at, end, flags)?;
+    match met {
+        Turned::Token(t) => Ok((Sight::Token(t), next)),
+        Turned::Header => Ok((Sight::Header, next)),
+        Turned::Over => Ok((Sight::Over, next)),
+    }
 }
 
 fn instance_there(s: &[u8], at: usize, end: usize) -> bool
     ensures { result ≡ instance_there s.now end at }
 {
-    if end <= at {
-        return false;
-    }
-    cursor::u8_at(s, at) == 0x0C
+    at < end && cursor::u8_at(s, at) == 0x0C
 }
 
-fn begun(got: InstanceRead) -> Sight
-    ensures { sight_answer result ≡ sight_of_head (instance_answer got) }
-{
-    match got {
-        InstanceRead::Read(i, c) => Sight::Instance(i, c),
-        InstanceRead::Refused(r) => Sight::Refused(r),
-    }
-}
-
-fn met(got: Turned) -> Sight
-    ensures { sight_answer result ≡ sight_of_turn (turn_answer got) }
-{
-    match got {
-        Turned::Token(t, c) => Sight::Token(t, c),
-        Turned::Header(c) => Sight::Header(c),
-        Turned::Over(c) => Sight::Over(c),
-        Turned::Refused(r) => Sight::Refused(r),
-    }
-}
-
-// Where a walk reads: the tests that come before it. A sum of two u32 does not wrap.
-pub fn window_of(s: &[u8], start: u32, length: u32) -> Window
+// Where a walk reads, its first position and the first at which no token begins: the tests that come before it. A sum of two u32 does not wrap.
+pub fn window_of(s: &[u8], start: u32, length: u32) -> Result<(usize, usize), Refusal>
     ensures { window_answer result ≡ window_of s.now start length }
 {
     if 0x1_0000 < s.len() {
-        return Window::Refused(Refusal {
-            number: Refusal::WRONG_LENGTH,
-            place: 0,
-        });
+        return cursor::refuse(Refusal::WRONG_LENGTH, 0);
     }
     let from = start as usize;
     if s.len() < from {
-        return Window::Refused(Refusal {
-            number: Refusal::PAST_END,
-            place: from,
-        });
+        return cursor::refuse(Refusal::PAST_END, from);
     }
-    Window::From(from, from + length as usize)
+    Ok((from, from + length as usize))
 }
 
 impl Values {
@@ -271,24 +201,19 @@ impl Values {
         }
     }
 
-    // The next value.
-    pub fn next(self, s: &[u8]) -> NextValue
+    // The next value, its descriptor's size, and where the walk over the values goes on.
+    pub fn next(self, s: &[u8]) -> Result<Option<(Value, u16, Values)>, Refusal>
         ensures { next_answer result ≡ next_of s.now self }
     {
         if self.left == 0 {
-            return NextValue::Done;
+            return Ok(None);
         }
-        match template::value_in(self.table, self.at, s) {
-            ValueRead::Read(v, next) => NextValue::Value(
-                v,
-                cursor::u16_at(s, self.table),
-                Values {
-                    table: self.table + 4,
-                    left: self.left - 1,
-                    at: next.at,
-                },
-            ),
-            ValueRead::Refused(r) => NextValue::Refused(r),
-        }
+        let (v, next) = template::value_in(self.table, self.at, s)?;
+        let rest = Values {
+            table: self.table + 4,
+            left: self.left - 1,
+            at: next.at,
+        };
+        Ok(Some((v, cursor::u16_at(s, self.table), rest)))
     }
 }

@@ -1,8 +1,11 @@
 -- What only the private functions of this crate cite: their answers, the pieces of the definitions of Value.antt that the code has, and
 -- what they ask for.
-use Rattle.std.specs.Prelude.{false, List, ℕ, ◌+◌, ◌^◌, ◌<◌, eqb, leb, ltb, length, drop}
+use Rattle.std.specs.Prelude.{Ok, Err, Result}
+use Rattle.cursor.specs.declared.Cursor.{Cursor}
+use Rattle.cursor.specs.declared.Refusal.{Refusal}
+use Rattle.std.specs.Prelude.{◌≡◌, false, List, ℕ, ◌+◌, ◌^◌, ◌<◌, eqb, leb, ltb, length, drop}
 use Rattle.cursor.specs.Answer.{Answer, given, refused, ◌then◌, pick}
-use Rattle.cursor.specs.Answers.{refusal}
+use Rattle.cursor.specs.Answers.{refusal, read_answer}
 use Rattle.cursor.specs.Reads.{take_at, array_at}
 use Rattle.cursor.specs.Text.{prefixed_at}
 use Rattle.cursor.specs.Refusals.{past_end}
@@ -10,13 +13,7 @@ use Rattle.value.specs.Kinds.{element_width_of}
 use Rattle.value.specs.Value.{value_of, as_bytes, as_number, as_text, moved, tells_length, told_in, takes_size, size_t_in, not_read, sized_in}
 use Rattle.value.specs.declared.Content.{Content}
 use Rattle.value.specs.declared.Content.TheVariants.{Nothing, Text, Number, Bytes}
-use Rattle.value.specs.declared.contents.ContentRead.{ContentRead}
-use Rattle.value.specs.declared.contents.ContentRead.TheVariants as C
 use Rattle.value.specs.declared.Value.{Value}
-
-abbrev pub content_answer : ContentRead → Answer Content
-content_answer (C.Read x c) = given x c.at
-content_answer (C.Refused r) = refusal r
 
 abbrev pub fixed_in : List ℕ → ℕ → Answer Content
 fixed_in t width = pick (eqb width 16) (take_at t 0 width then as_bytes) (take_at t 0 width then as_number)
@@ -41,12 +38,14 @@ passed_to end target v next =
 abbrev pub passed : ℕ → ℕ → ℕ → ℕ → Answer Content → Answer Value
 passed code start end target a = a then λ x next. passed_to end target (value_of code start x) next
 
-abbrev pub after_type : List ℕ → ℕ → ℕ → Answer Value
-after_type s code start =
-    valued code start
-    (pick (tells_length code) (moved start (told_in (drop start s) code))
+abbrev pub content_after_type : List ℕ → ℕ → ℕ → Answer Content
+content_after_type s code start =
+    pick (tells_length code) (moved start (told_in (drop start s) code))
     (pick (eqb code 0x01) (prefixed_at s start false then as_text)
-    (refused (not_read code) start)))
+    (refused (not_read code) start))
+
+abbrev pub after_type : List ℕ → ℕ → ℕ → Answer Value
+after_type s code start = valued code start (content_after_type s code start)
 
 -- where a content stands
 abbrev pub place_of : Content → ℕ
@@ -59,3 +58,12 @@ place_of (Bytes p) = p.start
 abbrev pub Movable : ℕ → Answer Content → Type 0
 Movable start (given x next) = (start + place_of x < 2 ^ 64) × (start + next < 2 ^ 64)
 Movable start (refused number place) = start + place < 2 ^ 64
+
+-- the content that a closure makes of what was read; `post` says that a call may return it
+abbrev pub MovableBy : {A : Type 0} → (A → Content → Type 0) → ℕ → Result (A × Cursor) Refusal → Type 0
+MovableBy {A} post start got =
+    (h : A → Content) × ((x : A) (r : Content) → post x r → r ≡ h x) × Movable start (read_answer got then λ x next. given (h x) next)
+
+abbrev pub MovedBy : {A : Type 0} → (A → Content → Type 0) → ℕ → Result (A × Cursor) Refusal → Result (Content × Cursor) Refusal → Type 0
+MovedBy {A} post start got result =
+    (h : A → Content) → ((x : A) (r : Content) → post x r → r ≡ h x) → read_answer result ≡ moved start (read_answer got then λ x next. given (h x) next)

@@ -1,5 +1,6 @@
 -- What a number's stored bytes decode to. Document 01, "Values": "A number decodes to signed (03, 05, 07, 09), unsigned (04, 06, 08, 0A,
 -- 0D, 10, 11, 14, 15), or a real whose bits are the stored bytes (0B, 0C)".
+use Rattle.std.specs.Prelude.{Option, Some, None}
 use Rattle.std.specs.Prelude.{◌≡◌, false, List, [], ◌∷◌, ℕ, ◌-◌, ◌/◌, ◌^◌, eqb, leb, ℤ, pos, negsuc}
 use Rattle.std.specs.Float.Ieee.{of_bits, to_bits, is_nan}
 use Rattle.std.specs.Float.{binary32, binary64}
@@ -9,13 +10,11 @@ use Rattle.value.specs.Kinds.{among, width_of}
 use Rattle.value.specs.declared.Scalar.{Scalar}
 use Rattle.value.specs.declared.Scalar.TheVariants.{Signed, Unsigned, Single, Double}
 use Rattle.value.specs.declared.Decoded.{Decoded}
-use Rattle.value.specs.declared.Decoding.{Decoding}
-use Rattle.value.specs.declared.Decoding.TheVariants.{Number, NoNumber}
 
 -- a number with its bits, or nothing where the type is no number's
-abbrev pub decoding_answer : Decoding → Maybe Decoded
-decoding_answer (Number d) = just d
-decoding_answer NoNumber = nothing
+abbrev pub decoding_answer : Option Decoded → Maybe Decoded
+decoding_answer (Some d) = just d
+decoding_answer None = nothing
 
 -- the number in the stored bytes: as many as the type has; a 10 has 4 or 8, and bytes that are not there count as zeros
 unfoldable pub bits_of : ℕ → List ℕ → ℕ

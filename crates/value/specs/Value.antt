@@ -1,9 +1,12 @@
 -- Values with and without a size. Document 01, "Values" and "Refusals and their places".
 -- "Each value is read from the middle of the stream": from the part t that starts at the value and goes to the stream's end. Every read
 -- is a read of the cursor at 0 of t, and what was read is then moved to where t starts in the stream.
+use Rattle.std.specs.Prelude.{Ok, Err, Result}
+use Rattle.cursor.specs.declared.Cursor.{Cursor}
+use Rattle.cursor.specs.declared.Refusal.{Refusal}
 use Rattle.std.specs.Prelude.{Bool, false, ◌||◌, List, [], ◌∷◌, ℕ, ◌+◌, ◌/◌, ◌^◌, eqb, leb, ltb, length, drop}
 use Rattle.cursor.specs.Answer.{Answer, given, refused, ◌then◌, pick}
-use Rattle.cursor.specs.Answers.{refusal}
+use Rattle.cursor.specs.Answers.{refusal, read_answer}
 use Rattle.cursor.specs.Reads.{number_at, take_at, part_moved, sid_at, array_at}
 use Rattle.cursor.specs.Text.{view_moved, counted_at, prefixed_at}
 use Rattle.cursor.specs.Refusals.{past_end, unknown_type, type_not_read}
@@ -13,12 +16,6 @@ use Rattle.value.specs.Kinds.{among, known_code, width_of, element_width_of}
 use Rattle.value.specs.declared.Content.{Content}
 use Rattle.value.specs.declared.Content.TheVariants.{Nothing, Text, Number, Bytes}
 use Rattle.value.specs.declared.Value.{Value}
-use Rattle.value.specs.declared.ValueRead.{ValueRead}
-use Rattle.value.specs.declared.ValueRead.TheVariants as R
-
-abbrev pub value_answer : ValueRead → Answer Value
-value_answer (R.Read v c) = given v c.at
-value_answer (R.Refused r) = refusal r
 
 abbrev pub value_of : ℕ → ℕ → Content → Value
 value_of code start x = record { code = code; start = start; content = x }

@@ -5,22 +5,20 @@
 mod contents;
 mod scalars;
 
-ghost use Rattle.std.specs.Prelude.{◌≡◌, ◌≤◌, length, false};
-ghost use Rattle.cursor.specs.Answer as Answer;
-ghost use Rattle.cursor.specs.Answer.{◌then◌};
-ghost use Rattle.cursor.specs.Text.{prefixed_at};
+ghost use Rattle.std.specs.Prelude.{◌≡◌, ◌≤◌, length};
+ghost use Rattle.cursor.specs.Answers.{read_answer};
 ghost use Rattle.value.specs.Kinds.{codes, known_code, width_of, element_width_of};
 ghost use Rattle.value.specs.Scalar.{decoding_answer, decoded_of};
-ghost use Rattle.value.specs.Value.{value_answer, as_text, sized_at, unsized_at};
-ghost use Rattle.value.specs.Pieces.{content_answer, valued, passed, passed_to, after_type};
+ghost use Rattle.value.specs.Value.{sized_at, unsized_at};
+ghost use Rattle.value.specs.Pieces.{passed_to, content_after_type};
 
-use contents::ContentRead;
-use cursor::{Cursor, Part, ReadU8, Refusal, Text, View};
+use cursor::{Cursor, Part, Read, Refusal, View};
 
 // By how much an array's code is above its element's.
 const ARRAY_OF: u8 = Kind::STRING_ARRAY - Kind::STRING;
 
-// The type set: the codes by their names in MS-EVEN6.
+// The type set: the codes by their names in MS-EVEN6. (They are numbers and no enum: the functions here take every number, and the set has
+// an answer for each.)
 #[derive(Clone, Copy)]
 pub struct Kind;
 
@@ -235,12 +233,6 @@ pub struct Value {
 }
 
 #[derive(Clone, Copy)]
-pub enum ValueRead {
-    Read(Value, Cursor),
-    Refused(Refusal),
-}
-
-#[derive(Clone, Copy)]
 pub enum Scalar {
     Signed(i64),
     Unsigned(u64),
@@ -255,134 +247,81 @@ pub struct Decoded {
     pub value: Scalar,
 }
 
-#[derive(Clone, Copy)]
-pub enum Decoding {
-    Number(Decoded),
-    // The type is no number's.
-    NoNumber,
-}
-
 // Reads a value with a descriptor's size. `rest` is the part of the stream from the cursor to the stream's end, and `start` is where it
 // starts in the stream. The two tests are for a `start` that no stream has: the part's length and the size, added to it, do not fit.
-pub fn read_sized(rest: &[u8], start: usize, code: u8, size: u16) -> ValueRead
-    ensures { value_answer result ≡ sized_at rest.now start code size }
+#[tactic(auto, unfolding(crate::specs::Value::sized_at))]
+pub fn read_sized(rest: &[u8], start: usize, code: u8, size: u16) -> Read<Value>
+    ensures { read_answer result ≡ sized_at rest.now start code size }
 {
-    let room = 0xFFFF_FFFF_FFFF_FFFF - start;
-    if room < rest.len() {
-        return refused(Refusal::PAST_END, start);
+    let size = usize::from(size);
+    let room = usize::MAX - start;
+    if room < rest.len() || room - rest.len() < size {
+        return cursor::refuse(Refusal::PAST_END, start);
     }
-    if room - rest.len() < size as usize {
-        return refused(Refusal::PAST_END, start);
-    }
-    let end = start + rest.len();
-    let target = start + size as usize;
-    let got = contents::sized(rest, start, code, size as usize);
-    passed(code, start, got, end, target)
+    let (content, next) = contents::sized(rest, start, code, size)?;
+    let v = Value {
+        code,
+        start,
+        content,
+    };
+    skip(v, next, start + rest.len(), start + size)
 }
 
 // Reads a value without a size at the cursor: its type, and what that reads.
-pub fn read_unsized(c: Cursor, s: &[u8]) -> ValueRead
-    ensures { value_answer result ≡ unsized_at s.now c.at }
+#[tactic(auto, unfolding(crate::specs::Value::unsized_at))]
+pub fn read_unsized(c: Cursor, s: &[u8]) -> Read<Value>
+    ensures { read_answer result ≡ unsized_at s.now c.at }
 {
-    match c.u8(s) {
-        ReadU8::Value(code, next) => after_type(code, next, s),
-        ReadU8::Refused(r) => ValueRead::Refused(r),
-    }
+    let (code, at) = c.u8(s)?;
+    let (content, next) = after_type(code, at, s)?;
+    Ok((
+        Value {
+            code,
+            start: at.at,
+            content,
+        },
+        next,
+    ))
 }
 
 // The number that the stored bytes of a type are. Bytes that are not there count as zeros, so that a SIZE_T of 4 bytes is read like
 // one of 8.
-pub fn decode(code: u8, bytes: &[u8]) -> Decoding
+pub fn decode(code: u8, bytes: &[u8]) -> Option<Decoded>
     ensures { decoding_answer result ≡ decoded_of code bytes.now }
 {
     match code {
-        Kind::INT8 => scalars::signed(cursor::u8_at(bytes, 0) as u64, 0xFF),
-        Kind::INT16 => scalars::signed(cursor::u16_at(bytes, 0) as u64, 0xFFFF),
-        Kind::INT32 => scalars::signed(cursor::u32_at(bytes, 0) as u64, 0xFFFF_FFFF),
-        Kind::INT64 => scalars::signed(cursor::u64_at(bytes, 0), 0xFFFF_FFFF_FFFF_FFFF),
+        Kind::INT8 => scalars::signed(u64::from(cursor::u8_at(bytes, 0)), 0xFF),
+        Kind::INT16 => scalars::signed(u64::from(cursor::u16_at(bytes, 0)), 0xFFFF),
+        Kind::INT32 => scalars::signed(u64::from(cursor::u32_at(bytes, 0)), 0xFFFF_FFFF),
+        Kind::INT64 => scalars::signed(cursor::u64_at(bytes, 0), u64::MAX),
         _ => scalars::unsigned(code, bytes),
     }
 }
 
-fn refused(number: u8, place: usize) -> ValueRead
-    ensures { value_answer result ≡ Answer.refused number place }
-{
-    ValueRead::Refused(Refusal {
-        number: number,
-        place: place,
-    })
-}
-
-// The value of what was read.
-fn valued(code: u8, start: usize, got: ContentRead) -> ValueRead
-    ensures { value_answer result ≡ valued code start (content_answer got) }
-{
-    match got {
-        ContentRead::Read(content, next) => ValueRead::Read(
-            Value {
-                code: code,
-                start: start,
-                content: content,
-            },
-            next,
-        ),
-        ContentRead::Refused(r) => ValueRead::Refused(r),
-    }
-}
-
-// The value of what was read, and then the skip.
-fn passed(code: u8, start: usize, got: ContentRead, end: usize, target: usize) -> ValueRead
-    ensures { value_answer result ≡ passed code start end target (content_answer got) }
-{
-    match got {
-        ContentRead::Read(content, next) => skip(
-            Value {
-                code: code,
-                start: start,
-                content: content,
-            },
-            next,
-            end,
-            target,
-        ),
-        ContentRead::Refused(r) => ValueRead::Refused(r),
-    }
-}
-
 // After a short read the position is set to the target; after a read past it the position stays.
-fn skip(v: Value, next: Cursor, end: usize, target: usize) -> ValueRead
-    ensures { value_answer result ≡ passed_to end target v next.at }
+fn skip(v: Value, next: Cursor, end: usize, target: usize) -> Read<Value>
+    ensures { read_answer result ≡ passed_to end target v next.at }
 {
     if target <= next.at {
-        return ValueRead::Read(v, next);
+        return Ok((v, next));
     }
     if end < target {
-        return refused(Refusal::PAST_END, target);
+        return cursor::refuse(Refusal::PAST_END, target);
     }
-    ValueRead::Read(v, Cursor { at: target })
+    Ok((v, Cursor { at: target }))
 }
 
 // What the type reads without a size.
-fn after_type(code: u8, c: Cursor, s: &[u8]) -> ValueRead
+fn after_type(code: u8, c: Cursor, s: &[u8]) -> Read<Content>
     requires { c.at ≤ length s.now }
-    ensures { value_answer result ≡ after_type s.now code c.at }
+    ensures { read_answer result ≡ content_after_type s.now code c.at }
 {
-    let at = c.at;
     if contents::tells(code) {
-        return valued(code, at, contents::told(&s[at..], at, code));
+        return contents::told(&s[c.at..], c.at, code);
     }
     if code == Kind::STRING {
-        return valued(code, at, string(c, s));
+        let (v, next) = c.len_prefixed_utf16_string(s, false)?;
+        return Ok((Content::Text(v), next));
     }
-    refused(contents::not_read(code), at)
-}
-
-// A count, and as many units.
-fn string(c: Cursor, s: &[u8]) -> ContentRead
-    ensures { content_answer result ≡ (prefixed_at s.now c.at false then as_text) }
-{
-    match c.len_prefixed_utf16_string(s, false) {
-        Text::Units(v, next) => ContentRead::Read(Content::Text(v), next),
-        Text::Refused(r) => ContentRead::Refused(r),
-    }
+    cursor::refuse(contents::not_read(code), c.at)
 }

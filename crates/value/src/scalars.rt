@@ -4,19 +4,16 @@ ghost use Rattle.std.specs.Float.Ieee.{of_bits};
 ghost use Rattle.std.specs.Float.{binary32, binary64};
 ghost use Rattle.value.specs.Scalar.{decoding_answer, bits_of, signed_of, decoded, unsigned_of, real_of};
 
-use crate::{Decoded, Decoding, Kind, Scalar};
+use crate::{Decoded, Kind, Scalar};
 
-fn decoded(bits: u64, value: Scalar) -> Decoding
+fn decoded(bits: u64, value: Scalar) -> Option<Decoded>
     ensures { decoding_answer result ≡ decoded bits value }
 {
-    Decoding::Number(Decoded {
-        bits: bits,
-        value: value,
-    })
+    Some(Decoded { bits, value })
 }
 
 // `last` is the last number of the width.
-pub(crate) fn signed(bits: u64, last: u64) -> Decoding
+pub(crate) fn signed(bits: u64, last: u64) -> Option<Decoded>
     requires { bits ≤ last }
     ensures { decoding_answer result ≡ decoded bits (Scalar.Signed (signed_of last bits)) }
 {
@@ -34,48 +31,43 @@ fn signed_of(bits: u64, last: u64) -> i64
     }
 }
 
-pub(crate) fn unsigned(code: u8, bytes: &[u8]) -> Decoding
+pub(crate) fn unsigned(code: u8, bytes: &[u8]) -> Option<Decoded>
     ensures { decoding_answer result ≡ unsigned_of code (bits_of code bytes.now) }
 {
     match code {
-        Kind::UINT8 => whole(cursor::u8_at(bytes, 0) as u64),
-        Kind::UINT16 => whole(cursor::u16_at(bytes, 0) as u64),
-        Kind::UINT32 | Kind::BOOL | Kind::HEX_INT32 => whole(cursor::u32_at(bytes, 0) as u64),
+        Kind::UINT8 => whole(u64::from(cursor::u8_at(bytes, 0))),
+        Kind::UINT16 => whole(u64::from(cursor::u16_at(bytes, 0))),
+        Kind::UINT32 | Kind::BOOL | Kind::HEX_INT32 => whole(u64::from(cursor::u32_at(bytes, 0))),
         Kind::UINT64 | Kind::FILETIME | Kind::HEX_INT64 => whole(cursor::u64_at(bytes, 0)),
         Kind::SIZE_T => whole(cursor::u64_at(bytes, 0)),
         _ => real(code, bytes),
     }
 }
 
-fn whole(bits: u64) -> Decoding
+fn whole(bits: u64) -> Option<Decoded>
     ensures { decoding_answer result ≡ decoded bits (Scalar.Unsigned bits) }
 {
     decoded(bits, Scalar::Unsigned(bits))
 }
 
-fn real(code: u8, bytes: &[u8]) -> Decoding
+fn real(code: u8, bytes: &[u8]) -> Option<Decoded>
     ensures { decoding_answer result ≡ real_of code (bits_of code bytes.now) }
 {
     match code {
-        Kind::REAL32 => single(cursor::u32_at(bytes, 0)),
-        Kind::REAL64 => double(cursor::u64_at(bytes, 0)),
-        _ => Decoding::NoNumber,
+        Kind::REAL32 => {
+            let bits = cursor::u32_at(bytes, 0);
+            decoded(u64::from(bits), Scalar::Single(f32_of(bits)))
+        }
+        Kind::REAL64 => {
+            let bits = cursor::u64_at(bytes, 0);
+            decoded(bits, Scalar::Double(f64_of(bits)))
+        }
+        _ => None,
     }
 }
 
-fn single(bits: u32) -> Decoding
-    ensures { decoding_answer result ≡ decoded bits (Scalar.Single (of_bits binary32 bits)) }
-{
-    decoded(bits as u64, Scalar::Single(f32_of(bits)))
-}
-
-fn double(bits: u64) -> Decoding
-    ensures { decoding_answer result ≡ decoded bits (Scalar.Double (of_bits binary64 bits)) }
-{
-    decoded(bits, Scalar::Double(f64_of(bits)))
-}
-
-// A NaN's bits are no float's that the machine makes, so they are told apart first.
+// A NaN's bits are no float's that the machine makes, so they are told apart first. (Two functions: a trait over the two types would need
+// both bodies and their contracts as well, and has the same two calls.)
 fn f32_of(bits: u32) -> f32
     ensures { result ≡ of_bits binary32 bits }
 {

@@ -1,5 +1,6 @@
 -- What each public call answers on a small input, by the definition that its contract cites. Each answer here is one that is easily got
 -- wrong, beside the wrong code and definitions that must-fail/ and wrong/ of the crates have.
+use Rattle.std.specs.Prelude.{Some}
 use Rattle.std.specs.Prelude.{◌≡◌, true, false, List, [], ◌∷◌, ◌++◌, ℕ, get_or, replicate}
 use Rattle.cursor.specs.Answer.{given, refused, gives, refuses, just, nothing}
 use Rattle.cursor.specs.Reads.{number_at, number_of, set_to, take_at, part_of, sid_at, starts_with}
@@ -17,7 +18,6 @@ use Rattle.record.specs.Chunk.{fields_at, strings_of, checksum_at, events_right,
 use Rattle.record.specs.Record.{payload_of}
 use Rattle.record.specs.declared.Fields.{Fields}
 use Rattle.chunk.specs.Walk.{start_of}
-use Rattle.chunk.specs.declared.Place.TheVariants as P
 use Rattle.log_file.specs.Header.{file_words}
 use Rattle.tokens.specs.Instance.{values_of, next_of}
 use Rattle.tokens.specs.Single.{ends_of}
@@ -147,7 +147,7 @@ pub record Calls : Type 0 where
   -- `Record::payload`: the size minus 28 bytes, from 24 on
   pub payload : payload_of (replicate 24 0 ++ (7 ∷ 8 ∷ 0 ∷ 0 ∷ 0 ∷ 0 ∷ [])) (record { offset = 0; size = 30; id = 0; time = 0 }) ≡ 7 ∷ 8 ∷ []
   -- `Walk::start`
-  pub start : (start_of true).place ≡ P.At 512
+  pub start : (start_of true).place ≡ Some 512
   -- `doortumble_bench_checksum`
   pub said : said_of (refused 1 0) ≡ 2
   -- `byte`, `text`: behind what is there, as far as there is room

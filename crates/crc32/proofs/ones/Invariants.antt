@@ -1,13 +1,8 @@
--- `crc32::ones` meets its contract. The loop's invariant: c is what the bytes before i make of the start.
--- The measure is what is left of the length. Assumes nothing.
+-- `crc32::ones` meets its contract. The loop's invariant: c is what the bytes so far make of the start. Assumes nothing.
 use mathlib.Core.Path.{◌≡◌}
-use Prim.Native.Nat.{◌-◌, ◌≤◌}
-use lib.ListN.{length, take}
+use lib.ListN.{take}
 use Rattle.crc32.specs.Crc.{crc_over}
 use Rattle.crc32.proofs.ones.Given as goal
 
-abbrev pub invariant-loop-i : goal.invariant-loop-i
-invariant-loop-i l = (l.i ≤ length l.s) × (l.c ≡ crc_over l.first (take l.i l.s))
-
-abbrev pub decreases-loop-i : goal.decreases-loop-i
-decreases-loop-i l = length l.s - l.i
+abbrev pub invariant-loop-b : goal.invariant-loop-b
+invariant-loop-b l = l.c ≡ crc_over l.first (take l.b-index l.s)

@@ -2,14 +2,9 @@
 -- them is a high surrogate. Assumes nothing.
 use mathlib.Core.Path.{◌≡◌}
 use mathlib.Core.Bool.{◌&&◌}
-use Prim.Native.Nat.{◌-◌, ◌/◌, ◌≤◌}
-use lib.ListN.{length, drop}
+use lib.ListN.{drop}
 use Rattle.cursor.specs.Text.{units_of, well_formed_after, well_formed}
 use Rattle.cursor.proofs.well_formed.Given as goal
 
 abbrev pub invariant-loop-n : goal.invariant-loop-n
-invariant-loop-n l =
-    (l.n ≤ length l.units / 2) × (well_formed (units_of l.units) ≡ (l.sound && well_formed_after l.high (drop l.n (units_of l.units))))
-
-abbrev pub decreases-loop-n : goal.decreases-loop-n
-decreases-loop-n l = length l.units / 2 - l.n
+invariant-loop-n l = well_formed (units_of l.units) ≡ (l.sound && well_formed_after l.high (drop l.n (units_of l.units)))

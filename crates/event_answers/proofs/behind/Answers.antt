@@ -1,17 +1,14 @@
 -- `behind` meets its contract. Assumes nothing.
-use borrow.Author.Rules.{rules}
-use mathlib.Core.Path.{sym}
+use mathlib.Core.Path.{◌∙◌}
 use native.Mathlib.Omega.{arith}
+use Prim.Native.Nat.{◌-◌}
 use lib.ListN.{length, drop, length-drop}
 use lib.Seq.{take_all}
-use Rattle.stream_answers.proofs.Lending.{drop_short}
-use Prim.Native.Nat.{◌-◌}
+use Rattle.event_answers.proofs.Least.{drop_upto}
 use Rattle.event_answers.proofs.behind.Goals as goal
-
-pub returns-then-bytes-lt-ROOM : goal.returns-then-bytes-lt-ROOM
-returns-then-bytes-lt-ROOM c = let a = c.args in sym (drop_short 4 a.bytes.now (omega arith))
 
 pub returns : goal.returns
 returns c =
-    let a = c.args in
-    take_all (length a.bytes.now - 4) (drop 4 a.bytes.now) (simp length-drop (omega arith))
+    let l = c.args.bytes.now in
+    let m = c.min.result in
+    take_all (length l - m) (drop m l) (simp length-drop (omega arith)) ∙ drop_upto 4 m l c.min.ensures

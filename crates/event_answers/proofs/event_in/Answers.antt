@@ -1,5 +1,6 @@
 -- `event_in` meets its contract. Assumes nothing.
-use mathlib.Core.Path.{refl, subst}
+use mathlib.Core.Path.{refl, subst, ap, ◌∙◌}
+use Rattle.doortumble.specs.Calls.{flag_of}
 use mathlib.Core.Bool.{Bool}
 use Rattle.event_call.specs.Calls.{EventPacked}
 use Rattle.print.proofs.Putting.{◌▸◌}
@@ -17,7 +18,7 @@ returns c =
       allowed = record {
         word = d.result;
         left = left;
-        packed = subst (λ (b : Bool). EventPacked a.s.now a.start a.length b a.words.now left d.result) (flag_back a.inline) d.ensures;
+        packed = subst (λ (b : Bool). EventPacked a.s.now a.start a.length b a.words.now left d.result) (ap flag_of c.from.ensures ∙ flag_back a.inline) d.ensures;
         is = refl;
       };
       puts = c.said-end.ensures ▸ c.words_line.ensures;

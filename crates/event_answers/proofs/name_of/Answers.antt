@@ -2,7 +2,8 @@
 use mathlib.Core.Path.{◌≡◌, sym, ap, ◌∙◌}
 use mathlib.Core.List.{List}
 use Prim.Native.Nat.{ℕ}
-use lib.ListN.{take}
+use lib.ListN.{length, take}
+use native.Mathlib.Omega.{arith}
 use lib.Seq.{length-take-le}
 use Rattle.print.proofs.Putting.{put_as}
 use Rattle.event_answers.specs.Called.{name_text}
@@ -13,15 +14,15 @@ use Rattle.event_answers.proofs.name_of.Goals as goal
 
 pub slice_bounds-name_in-end-2 : goal.slice_bounds-name_in-end-2
 slice_bounds-name_in-end-2 c =
-    sym (length-take-le _ c.args.words.now c.at_most-n.ensures.1)
+    sym (length-take-le _ c.args.words.now (omega (arith, c.min-n.ensures)))
 
 pub returns : goal.returns
 returns c =
-    let n = c.at_most-n in
+    let n = c.min-n in
     let a = c.args in
     let b = a.bytes.now in
     let p : take n.result a.words.now ≡ take (room_in b) a.words.now =
-    take_upto a.words.now n.result _ (room_in b) n.ensures.0 c.u32_at.ensures in
+    take_upto a.words.now n.result _ (room_in b) n.ensures c.u32_at.ensures in
     put_as
     (ap (λ (s : List ℕ). name_text s a.offset a.inline (take n.result a.words.now)) c.behind.ensures ∙ ap (name_text (stream_of b) a.offset a.inline) p)
     c.name_in.ensures

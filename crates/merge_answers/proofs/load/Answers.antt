@@ -1,18 +1,12 @@
 -- `load` meets its contract: the words so far are laid. Assumes nothing.
-use mathlib.Core.Path.{◌≡◌, refl, sym, ap, ◌∙◌}
-use Prim.Native.Nat.{◌+◌, ◌-◌, ◌≤◌}
+use mathlib.Core.Path.{◌≡◌, sym, ap, ◌∙◌}
+use Prim.Native.Nat.{◌+◌, ◌≤◌}
 use native.Mathlib.Omega.{arith}
 use lib.ListN.{length, set}
-use Rattle.sheet.proofs.Laying.{laid_next, laid_kept, laid_whole}
+use Rattle.sheet.proofs.Laying.{laid_next, laid_whole}
 use Rattle.stream_answers.specs.Kept.{stored_words}
 use Rattle.stream_answers.proofs.Stored.{stored_length, stored_at, laid_all}
 use Rattle.merge_answers.proofs.load.Goals as goal
-
-pub loop-i-init : goal.loop-i-init
-loop-i-init c = (omega arith, c.requires.0, c.requires.1, refl, refl)
-
-pub loop-i-smaller : goal.loop-i-smaller
-loop-i-smaller c = omega (arith, c.loop-i-test.true, c.loop-i.invariant.4)
 
 pub loop-i-preserved : goal.loop-i-preserved
 loop-i-preserved c =
@@ -21,16 +15,8 @@ loop-i-preserved c =
     let n = length a.words.now in
     let W = stored_words n a.bytes.now a.from in
     let z : length W ≡ n = stored_length n a.bytes.now a.from in
-    let room : length W ≤ n = omega (arith, z) in
-    let h : l.i + 1 ≤ n = omega (arith, c.loop-i-test.true, l.invariant.4) in
-    let k : l.i + 1 ≤ length W = omega (arith, h, z) in
-    let e =
-    ap (set l.words l.i) (c.u64_at.ensures ∙ sym (stored_at n a.bytes.now a.from l.i (omega (arith, h))))
-    ∙ laid_next W a.words.now room l.i l.words (omega (arith, k)) l.invariant.3 in
-    (h, l.invariant.1, l.invariant.2, e, laid_kept W a.words.now room (l.i + 1) _ k e)
-
-pub shape_of-words : goal.shape_of-words
-shape_of-words c = c.loop-i.invariant.4
+    ap (set l.words l.i) (c.u64_at.ensures ∙ sym (stored_at n a.bytes.now a.from l.i (omega (arith, c.loop-i-test.true))))
+    ∙ laid_next W a.words.now (omega (arith, z)) l.i l.words (omega (arith, c.loop-i-test.true, z)) l.invariant
 
 pub returns : goal.returns
 returns c =
@@ -39,5 +25,4 @@ returns c =
     let n = length a.words.now in
     let W = stored_words n a.bytes.now a.from in
     let z : length W ≡ n = stored_length n a.bytes.now a.from in
-    let room : length W ≤ n = omega (arith, z) in
-    laid_whole W a.words.now room l.i l.words (omega (arith, z, l.invariant.0, c.loop-i-test.false, l.invariant.4)) l.invariant.3 ∙ laid_all W a.words.now z
+    laid_whole W a.words.now (omega (arith, z)) l.i l.words (omega (arith, z, c.loop-i-test.false)) l.invariant ∙ laid_all W a.words.now z

@@ -1,19 +1,9 @@
 -- `load` meets its contract: the words so far are laid. Assumes nothing.
 use mathlib.Core.Path.{◌≡◌}
-use Prim.Native.Nat.{◌+◌, ◌-◌, ◌*◌, ◌≤◌}
 use lib.ListN.{length, take}
 use Rattle.cursor.specs.Lent.{laid}
 use Rattle.stream_answers.specs.Kept.{stored_words}
-use Rattle.merge_answers.specs.Merged.{most_given}
 use Rattle.merge_answers.proofs.load.Given as goal
 
 abbrev pub invariant-loop-i : goal.invariant-loop-i
-invariant-loop-i l =
-    (l.i ≤ length l.initial.words)
-    × (length l.initial.words ≤ most_given)
-    × (l.from ≤ 12 + 8 * most_given)
-    × (l.words ≡ laid (take l.i (stored_words (length l.initial.words) l.bytes l.from)) l.initial.words)
-    × (length l.words ≡ length l.initial.words)
-
-abbrev pub decreases-loop-i : goal.decreases-loop-i
-decreases-loop-i l = length l.initial.words - l.i
+invariant-loop-i l = l.words ≡ laid (take l.i (stored_words (length l.initial.words) l.bytes l.from)) l.initial.words

@@ -8,4 +8,4 @@ pub returns-then-bytes-eq0 : goal.returns-then-bytes-eq0
 returns-then-bytes-eq0 c = put_as (hex_none c.args.bytes.now c.if-bytes-eq0.true) c.byte.ensures
 
 pub returns : goal.returns
-returns c = put_as (hex_some c.args.bytes.now c.if-bytes-eq0.false) c.hex_bytes.ensures
+returns c = put_as (hex_some c.args.bytes.now c.if-bytes-eq0.false) c.members.ensures

@@ -1,15 +1,8 @@
 -- `new_beside` meets its contract: the first word, and where that is right the second. Assumes nothing.
 use mathlib.Core.Path.{◌≡◌, sym, ◌∙◌}
 use native.Mathlib.Omega.{arith}
-use borrow.Author.Rules.{rules}
-use Rattle.sheet.proofs.Keeping.{two_none, two_some}
+use Rattle.sheet.proofs.Keeping.{two_some}
 use Rattle.sheet.proofs.new_beside.Goals as goal
-
-pub returns-then-next-same : goal.returns-then-next-same
-returns-then-next-same c =
-    let a = c.args in
-    let f = sym c.if-next-same.true ∙ c.word_beside-next.ensures in
-    (λ h. two_none a.given.now a.same a.first a.second f, λ h. absurd (omega (arith, h, c.if-same-n.false)))
 
 pub returns : goal.returns
 returns c =

@@ -2,19 +2,29 @@
 -- the walk is left. Assumes nothing.
 use mathlib.Core.Path.{◌≡◌, sym, ap, subst, ◌∙◌}
 use mathlib.Core.List.{List}
-use Prim.Native.Nat.{ℕ, ◌+◌, ◌-◌, ◌*◌, ◌^◌, ◌≤◌}
+use Prim.Native.Nat.{ℕ, ◌*◌}
 use native.Mathlib.Nat.{zero-mul}
 use native.Mathlib.Omega.{arith}
 use borrow.Author.Rules.{rules}
 use lib.ListN.{length}
-use Rattle.tokens.specs.Walk.{step_answer, walk_at, counted_of}
+use Rattle.std.specs.Prelude.{Option, None, Ok, Result}
+use Rattle.std.proofs.lemmas.Result.{err_from_is_err_and}
+use Rattle.cursor.specs.Answer.{Answer}
+use Rattle.cursor.specs.declared.Cursor.{Cursor}
+use Rattle.cursor.specs.declared.Refusal.{Refusal}
+use Rattle.tokens.specs.Walk.{Met, step_answer, walk_at}
+use Rattle.tokens.specs.declared.Token.{Token}
 use Rattle.tokens.proofs.Reach.{Grows}
 use Rattle.tokens.proofs.Steps.{step_grows, walk_is, walk_token, plus, plus_zero, plus_none, plus_before}
 use Rattle.sheet.specs.Kept.{in_form}
 use Rattle.sheet.specs.Noted.{form_width, RightSoFar}
-use Rattle.sheet.proofs.Noting.{words, marks, set_one, both_as, read_is, Noting, noting_start, noting_next, noting_last, noting_refused}
-use Rattle.sheet.proofs.Keeping.{two_in_form_lem, formed, one_more, Along, along_start, along_next, along_over, beside_ended, beside_refused}
+use Rattle.sheet.proofs.Noting.{words, marks, set_one, both_as, read_is, noting_start, noting_next, noting_last, noting_refused}
+use Rattle.sheet.proofs.Keeping.{two_in_form_lem, formed, one_more, along_start, along_next, along_over, beside_ended, beside_refused}
 use Rattle.sheet.proofs.note_beside.Goals as goal
+
+-- what a step met
+met : (r : Result (Option Token × Cursor) Refusal) (x : Option Token × Cursor) (m : Option Token) (y : Answer Met) → step_answer r ≡ y → r ≡ Ok x → x.0 ≡ m → y ≡ step_answer (Ok (m, x.1))
+met r x m y e f g = sym e ∙ ap step_answer f ∙ ap (λ (o : Option Token). step_answer (Ok (o, x.1))) g
 
 pub loop-t-init : goal.loop-t-init
 loop-t-init c =
@@ -28,35 +38,11 @@ loop-t-init c =
       omega arith,
     )
 
-pub put_words-requires : goal.put_words-requires
-put_words-requires c =
-    let l = c.loop-t in
-    let a = c.args in
-    let e = sym c.step.ensures ∙ ap step_answer c.in-Token.is in
-    let h = subst (Grows l.at (length a.s.now)) e (step_grows a.s.now a.end a.flags l.at) in
-    omega (arith, l.invariant.0, h.0, h.1, h.2)
-
-pub beside-same-requires : goal.beside-same-requires
-beside-same-requires c =
-    let l = c.loop-t in
-    let a = c.args in
-    let e = sym c.step.ensures ∙ ap step_answer c.in-Token.is in
-    let h = subst (Grows l.at (length a.s.now)) e (step_grows a.s.now a.end a.flags l.at) in
-    omega (arith, l.invariant.0, h.0, h.1, h.2, l.invariant.6)
-
-pub overflow_add-n : goal.overflow_add-n
-overflow_add-n c =
-    let l = c.loop-t in
-    let a = c.args in
-    let e = sym c.step.ensures ∙ ap step_answer c.in-Token.is in
-    let h = subst (Grows l.at (length a.s.now)) e (step_grows a.s.now a.end a.flags l.at) in
-    omega (arith, l.invariant.0, h.0, h.1, h.2)
-
 pub loop-t-smaller : goal.loop-t-smaller
 loop-t-smaller c =
     let l = c.loop-t in
     let a = c.args in
-    let e = sym c.step.ensures ∙ ap step_answer c.in-Token.is in
+    let e = met _ _ _ _ c.step.ensures c.in_ok-t.was c.in-Some-default.is-0 in
     let h = subst (Grows l.at (length a.s.now)) e (step_grows a.s.now a.end a.flags l.at) in
     omega (arith, h.0, h.1, h.2)
 
@@ -64,49 +50,47 @@ pub loop-t-preserved : goal.loop-t-preserved
 loop-t-preserved c =
     let l = c.loop-t in
     let a = c.args in
-    let e = sym c.step.ensures ∙ ap step_answer c.in-Token.is in
+    let t = c.in-Some-default.t in
+    let e = met _ _ _ _ c.step.ensures c.in_ok-t.was c.in-Some-default.is-0 in
     let h = subst (Grows l.at (length a.s.now)) e (step_grows a.s.now a.end a.flags l.at) in
     let first = c.first_word-first.ensures in
     let second = c.second_word-second.ensures in
     let w = both_as l.words _ (l.n * 2) _ _ _ _ c.put_words.ensures first second in
-    let m = set_one l.kinds _ l.n _ _ c.put_mark.ensures c.mark.ensures in
-    let r = subst (λ (x : List ℕ). RightSoFar (l.n * form_width a.form) x a.given.now l.same c.beside-same.result) (two_in_form_lem a.form c.in-Token.t _ _ first second) c.beside-same.ensures in (
+    let m = set_one l.kinds _ l.n _ _ c.put.ensures c.mark.ensures in
+    let r = subst (λ (x : List ℕ). RightSoFar (l.n * form_width a.form) x a.given.now l.same c.beside-same.result) (two_in_form_lem a.form t _ _ first second) c.beside-same.ensures in (
       omega (arith, l.invariant.0, h.0, h.1),
       l.invariant.1 ∙ ap (plus l.n) (walk_token a.s.now a.end a.flags l.at _ _ e)
-          ∙ plus_before l.n c.in-Token.t (walk_at a.s.now a.end a.flags c.in-Token.next.at),
-      noting_next a.s.now a.end a.flags words a.start l.at l.n a.words.now l.words l.invariant.2 c.in-Token.t _ e _ w,
-      noting_next a.s.now a.end a.flags marks a.start l.at l.n a.kinds.now l.kinds l.invariant.3 c.in-Token.t _ e _ m,
-      along_next a.s.now a.end a.flags (formed a.form) a.start a.given.now l.at (l.n * form_width a.form) _ l.same l.invariant.4 c.in-Token.t _ e _ r (one_more l.n (form_width a.form)),
+          ∙ plus_before l.n t (walk_at a.s.now a.end a.flags c.in_ok-t.field-0.1.at),
+      noting_next a.s.now a.end a.flags words a.start l.at l.n a.words.now l.words l.invariant.2 t _ e _ w,
+      noting_next a.s.now a.end a.flags marks a.start l.at l.n a.kinds.now l.kinds l.invariant.3 t _ e _ m,
+      along_next a.s.now a.end a.flags (formed a.form) a.start a.given.now l.at (l.n * form_width a.form) _ l.same l.invariant.4 t _ e _ r (one_more l.n (form_width a.form)),
       omega (arith, l.invariant.0, h.0, h.1, h.2),
       l.invariant.6,
     )
 
-pub ended-requires : goal.ended-requires
-ended-requires c = omega (arith, c.loop-t.invariant.5, c.loop-t.invariant.6)
-
-pub shape_of-words-in-End : goal.shape_of-words-in-End
-shape_of-words-in-End c = c.loop-t.invariant.2.kept
-
-pub shape_of-kinds-in-End : goal.shape_of-kinds-in-End
-shape_of-kinds-in-End c = c.loop-t.invariant.3.kept
-
-pub returns-in-End : goal.returns-in-End
-returns-in-End c =
+pub returns : goal.returns
+returns c =
     let l = c.loop-t in
     let a = c.args in
-    let e = sym c.step.ensures ∙ ap step_answer c.in-End.is in
+    let o : c.in_ok-t.field-0.0 ≡ None = search rules in
+    let e = met _ _ _ _ c.step.ensures c.in_ok-t.was o in
     let k = l.invariant.1 ∙ ap (plus l.n) (walk_is a.s.now a.end a.flags l.at _ e) ∙ plus_none l.n in
-    let right =
-    along_over a.s.now a.end a.flags (formed a.form) a.start a.given.now l.at _ l.same l.invariant.4 (read_is a.s.now a.end a.flags l.at _ e) in record { result_value = c.ended.ensures ∙ beside_ended a.s.now a.end a.flags a.start l.n k a.form a.given.now l.same right; words_after = noting_last a.s.now a.end a.flags words a.start l.at l.n a.words.now l.words l.invariant.2 _ e; kinds_after = noting_last a.s.now a.end a.flags marks a.start l.at l.n a.kinds.now l.kinds l.invariant.3 _ e }
+    let right = along_over a.s.now a.end a.flags (formed a.form) a.start a.given.now l.at _ l.same l.invariant.4 (read_is a.s.now a.end a.flags l.at _ e) in
+    record {
+      result_value = c.ended.ensures ∙ beside_ended a.s.now a.end a.flags a.start l.n k a.form a.given.now l.same right;
+      words_after = noting_last a.s.now a.end a.flags words a.start l.at l.n a.words.now l.words l.invariant.2 _ e;
+      kinds_after = noting_last a.s.now a.end a.flags marks a.start l.at l.n a.kinds.now l.kinds l.invariant.3 _ e;
+    }
 
-pub shape_of-words-in-Refused : goal.shape_of-words-in-Refused
-shape_of-words-in-Refused c = c.loop-t.invariant.2.kept
-
-pub shape_of-kinds-in-Refused : goal.shape_of-kinds-in-Refused
-shape_of-kinds-in-Refused c = c.loop-t.invariant.3.kept
-
-pub returns-in-Refused : goal.returns-in-Refused
-returns-in-Refused c =
+pub returns-in_err-t : goal.returns-in_err-t
+returns-in_err-t c =
     let l = c.loop-t in
     let a = c.args in
-    let e = sym c.step.ensures ∙ ap step_answer c.in-Refused.is in record { result_value = beside_refused (in_form a.form) (walk_at a.s.now a.end a.flags a.start) a.given.now _ _ (l.invariant.1 ∙ ap (plus l.n) (walk_is a.s.now a.end a.flags l.at _ e)); words_after = noting_refused a.s.now a.end a.flags words a.start l.at l.n a.words.now l.words l.invariant.2 _ _ e; kinds_after = noting_refused a.s.now a.end a.flags marks a.start l.at l.n a.kinds.now l.kinds l.invariant.3 _ _ e }
+    let e = sym c.step.ensures ∙ ap step_answer c.in_err-t.was in
+    let p = err_from_is_err_and c.from_residual.result c.from_residual.ensures.1 in
+    rw (p.1, p.2)
+    (record {
+      result_value = beside_refused (in_form a.form) (walk_at a.s.now a.end a.flags a.start) a.given.now _ _ (l.invariant.1 ∙ ap (plus l.n) (walk_is a.s.now a.end a.flags l.at _ e));
+      words_after = noting_refused a.s.now a.end a.flags words a.start l.at l.n a.words.now l.words l.invariant.2 _ _ e;
+      kinds_after = noting_refused a.s.now a.end a.flags marks a.start l.at l.n a.kinds.now l.kinds l.invariant.3 _ _ e;
+    })

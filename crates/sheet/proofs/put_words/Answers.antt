@@ -1,7 +1,6 @@
 -- `put_words` meets its contract: two stores, or one where there is room for one. Assumes nothing.
 use mathlib.Core.Path.{refl}
 use native.Mathlib.Omega.{arith}
-use borrow.Author.Rules.{rules}
 use lib.ListN.{length-set}
 use Rattle.sheet.proofs.Noting.{put_two, put_first}
 use Rattle.sheet.proofs.put_words.Goals as goal
@@ -17,4 +16,4 @@ returns-then-n-words c =
 pub returns : goal.returns
 returns c =
     let a = c.args in
-    put_first a.words.now _ _ _ _ _ (omega (arith, c.if-n-words.false)) c.put_word.ensures refl
+    put_first a.words.now _ _ _ _ _ (omega (arith, c.if-n-words.false)) c.put.ensures refl

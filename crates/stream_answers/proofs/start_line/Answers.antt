@@ -6,9 +6,9 @@ use Rattle.tokens.specs.Single.{single_answer}
 use Rattle.stream_answers.specs.Modes.{single_text}
 use Rattle.stream_answers.proofs.start_line.Goals as goal
 
-pub returns-in-At : goal.returns-in-At
-returns-in-At c =
-    put_as (ap (λ x. single_text (single_answer x)) (sym c.in-At.is)) c.line.ensures
+pub returns-in-Some : goal.returns-in-Some
+returns-in-Some c =
+    put_as (ap (λ x. single_text (single_answer x)) (sym c.in-Some.is)) c.line.ensures
 
-pub returns-in-Nothing : goal.returns-in-Nothing
-returns-in-Nothing c = put_as (ap (λ x. single_text (single_answer x)) (sym c.in-Nothing.is)) c.text.ensures
+pub returns-in-None : goal.returns-in-None
+returns-in-None c = put_as (ap (λ x. single_text (single_answer x)) (sym c.in-None.is)) c.text.ensures

@@ -7,15 +7,15 @@ use Rattle.print.proofs.Putting.{put_as}
 use Rattle.stream_answers.proofs.Walking.{walk_told}
 use Rattle.stream_answers.proofs.walk.Goals as goal
 
-pub returns-in-From : goal.returns-in-From
-returns-in-From c =
+pub returns-in-Ok : goal.returns-in-Ok
+returns-in-Ok c =
     let a = c.args in
-    let e = sym (ap window_answer c.in-From.is) ∙ c.window_of.ensures in
+    let e = sym (ap window_answer c.in-Ok.is) ∙ c.window_of.ensures in
     put_as (sym (walk_told a.s.now a.asked.start a.asked.length a.asked.flags _ e)) c.lines.ensures
 
-pub returns-in-Refused : goal.returns-in-Refused
+pub returns-in-Err : goal.returns-in-Err
 unfolding each
-returns-in-Refused c =
+returns-in-Err c =
     let a = c.args in
-    let e = sym (ap window_answer c.in-Refused.is) ∙ c.window_of.ensures in
+    let e = sym (ap window_answer c.in-Err.is) ∙ c.window_of.ensures in
     put_as (sym (walk_told a.s.now a.asked.start a.asked.length a.asked.flags _ e)) c.refused.ensures

@@ -7,15 +7,15 @@ use Rattle.value.proofs.decode.Goals as goal
 
 pub returns-in-3 : goal.returns-in-3
 unfolding among width_of bits_of decoded_of
-returns-in-3 c = simp (c.in-3.is, c.signed.ensures, c.u8_at.ensures)
+returns-in-3 c = simp (c.in-3.is, c.signed.ensures, c.u8_at.ensures, c.from.ensures)
 
 pub returns-in-5 : goal.returns-in-5
 unfolding among width_of bits_of decoded_of
-returns-in-5 c = simp (c.in-5.is, c.signed-in-5.ensures, c.u16_at.ensures)
+returns-in-5 c = simp (c.in-5.is, c.signed-in-5.ensures, c.u16_at.ensures, c.from-in-5.ensures)
 
 pub returns-in-7 : goal.returns-in-7
 unfolding among width_of bits_of decoded_of
-returns-in-7 c = simp (c.in-7.is, c.signed-in-7.ensures, c.u32_at.ensures)
+returns-in-7 c = simp (c.in-7.is, c.signed-in-7.ensures, c.u32_at.ensures, c.from-in-7.ensures)
 
 pub returns-in-9 : goal.returns-in-9
 unfolding among width_of bits_of decoded_of

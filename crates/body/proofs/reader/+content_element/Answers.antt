@@ -1,11 +1,10 @@
 -- The cycle of `content` and `element` meets its contracts: each call is of fewer tokens, or of as many and of `element`. Assumes nothing.
-use mathlib.Core.Path.{◌≡◌, refl, sym, ◌∙◌}
-use mathlib.Core.List.{List, [], ◌∷◌}
-use Prim.Native.Nat.{ℕ, suc, ◌+◌, ◌-◌, ◌*◌, ◌≤◌, ◌<◌}
+use mathlib.Core.Path.{refl, sym, ap, ◌∙◌}
+use mathlib.Core.List.{[], ◌∷◌}
+use Prim.Native.Nat.{◌-◌}
 use native.Mathlib.Omega.{arith}
-use borrow.Author.Rules.{rules}
-use lib.ListN.{length}
-use Rattle.body.specs.Reader.{walk, inside}
+use Rattle.std.specs.Prelude.{Ok}
+use Rattle.std.proofs.lemmas.Result.{err_from_is_err_and}
 use Rattle.body.proofs.Walking as walking
 use Rattle.body.proofs.reader.+content_element.Goals as goal
 
@@ -22,7 +21,7 @@ content-returns-then-level-eq0 t c =
     let q = c.requires.2 in
     let k = sym c.is_open.ensures ∙ c.if-is_open.true in
     let got = c.element in
-    let n = c.in-Next.is in
+    let n = c.in_ok-i.was in
     let f = walking.further_is _ _ got.result _ got.ensures.further n in record {
       further = (omega (arith, f.0), f.1);
       content_read = (
@@ -31,19 +30,13 @@ content-returns-then-level-eq0 t c =
       );
     }
 
-pub content-loop-i-smaller-in-Next : goal.content-loop-i-smaller-in-Next
-content-loop-i-smaller-in-Next t c =
-    let got = c.element in
-    let f = walking.further_is _ _ got.result _ got.ensures.further c.in-Next.is in
-    omega (arith, f.0, f.1)
-
-pub content-loop-i-preserved-in-Next : goal.content-loop-i-preserved-in-Next
-content-loop-i-preserved-in-Next t c =
+pub content-loop-i-preserved-else-level-eq0 : goal.content-loop-i-preserved-else-level-eq0
+content-loop-i-preserved-else-level-eq0 t c =
     let l = c.loop-i in
     let h = c.loop-i-test.true in
     let k = sym c.is_open.ensures ∙ c.if-is_open.true in
     let got = c.element in
-    let n = c.in-Next.is in
+    let n = c.in_ok-i.was in
     let f = walking.further_is _ _ got.result _ got.ensures.further n in (
       omega (arith, f.0),
       f.1,
@@ -52,20 +45,23 @@ content-loop-i-preserved-in-Next t c =
       λ st e. walking.inside_child _ _ _ h _ st _ _ _ k (got.ensures.element_read (_ ∷ st) (omega (arith, e))) n ∙ l.invariant.4 st e,
     )
 
-pub content-returns-in-Refused : goal.content-returns-in-Refused
-content-returns-in-Refused t c =
+pub content-returns-in_err-i : goal.content-returns-in_err-i
+content-returns-in_err-i t c =
     let l = c.loop-i in
     let h = c.loop-i-test.true in
     let q = c.requires.2 in
     let k = sym c.is_open.ensures ∙ c.if-is_open.true in
     let got = c.element in
-    let n = c.in-Refused.is in record {
+    let n = c.in_err-i.was in
+    let p = err_from_is_err_and c.from_residual.result c.from_residual.ensures.1 in
+    rw (p.1, p.2)
+    (record {
       further = tt {0};
       content_read = (
         λ z. walking.root_child _ _ _ h _ _ got.result _ k (q z).2 (got.ensures.element_read [] (sym z)) n ∙ walking.from_first _ _ _ _ _ (l.invariant.3 z).0 (l.invariant.3 z).1,
         λ st e. walking.inside_child _ _ _ h _ st _ _ _ k (got.ensures.element_read (_ ∷ st) (omega (arith, e))) n ∙ l.invariant.4 st e,
       );
-    }
+    })
 
 pub content-returns-then-marks-i-eq-CLOSE_ELEMENT : goal.content-returns-then-marks-i-eq-CLOSE_ELEMENT
 content-returns-then-marks-i-eq-CLOSE_ELEMENT t c =
@@ -87,7 +83,7 @@ content-leaf-requires t c = (c.loop-i-test.true, c.if-marks-i-eq-CLOSE_ELEMENT.f
 pub content-loop-i-smaller : goal.content-loop-i-smaller
 content-loop-i-smaller t c =
     let got = c.leaf in
-    let f = walking.further_is _ _ got.result _ got.ensures.further c.in-Next-leaf.is in
+    let f = walking.further_is _ _ got.result _ got.ensures.further c.in_ok-i-2.was in
     omega (arith, f.0, f.1)
 
 pub content-loop-i-preserved : goal.content-loop-i-preserved
@@ -96,7 +92,7 @@ content-loop-i-preserved t c =
     let q = c.requires.2 in
     let k = sym c.is_open.ensures ∙ c.if-is_open.false in
     let got = c.leaf in
-    let n = c.in-Next-leaf.is in
+    let n = c.in_ok-i-2.was in
     let f = walking.further_is _ _ got.result _ got.ensures.further n in (
       omega (arith, f.0),
       f.1,
@@ -105,39 +101,45 @@ content-loop-i-preserved t c =
       λ st e. walking.resumed _ _ _ _ _ _ (got.ensures.leaf_read st) n ∙ l.invariant.4 st e,
     )
 
-pub content-returns-in-Refused-leaf : goal.content-returns-in-Refused-leaf
-content-returns-in-Refused-leaf t c =
+pub content-returns-in_err-i-2 : goal.content-returns-in_err-i-2
+content-returns-in_err-i-2 t c =
     let l = c.loop-i in
     let q = c.requires.2 in
     let k = sym c.is_open.ensures ∙ c.if-is_open.false in
-    let got = c.leaf in record {
+    let got = c.leaf in
+    let p = err_from_is_err_and c.from_residual-in_err-i-2.result c.from_residual-in_err-i-2.ensures.1 in
+    rw (p.1, p.2)
+    (record {
       further = tt {0};
       content_read = (
         λ z. walking.open_there c.args.marks.now _ _ (l.invariant.3 z).0 (q z).1 k,
-        λ st e. walking.resumed _ _ _ _ _ _ (got.ensures.leaf_read st) c.in-Refused-leaf.is ∙ l.invariant.4 st e,
+        λ st e. walking.resumed _ _ _ _ _ _ (got.ensures.leaf_read st) c.in_err-i-2.was ∙ l.invariant.4 st e,
       );
-    }
+    })
 
 pub content-returns : goal.content-returns
 content-returns t c =
     let l = c.loop-i in
-    let q = c.requires.2 in record {
+    let q = c.requires.2 in
+    rw c.refuse.ensures
+    (record {
       further = tt {0};
       content_read = (
         λ z. absurd (omega (arith, (q z).0, (l.invariant.3 z).0, c.loop-i-test.false)),
         λ st e. walking.inside_ended _ _ _ _ st c.loop-i-test.false ∙ l.invariant.4 st e,
       );
-    }
+    })
 
 pub element-returns-then-above-ge64 : goal.element-returns-then-above-ge64
 element-returns-then-above-ge64 t c =
-    let a = c.args in record { further = tt {0}; element_read = λ st e. walking.opened_deep a.marks.now a.at _ _ st (omega (arith, e, c.if-above-ge64.true)) }
+    let a = c.args in
+    rw c.refuse.ensures (record { further = tt {0}; element_read = λ st e. walking.opened_deep a.marks.now a.at _ _ st (omega (arith, e, c.if-above-ge64.true)) })
 
 pub element-content-requires : goal.element-content-requires
 element-content-requires t c =
     let p = c.requires in
     let got = c.front in
-    let f = walking.tag_further_is _ _ got.result _ got.ensures.tag_further c.in-Full.is in
+    let f = walking.tag_further_is _ _ got.result _ got.ensures.tag_further (c.in_ok-next.was ∙ ap Ok c.in-Full.is) in
     (omega (arith, p, f.0, f.1), (f.1, p.1, λ z. absurd (omega (arith, z))))
 
 pub element-returns-in-Empty : goal.element-returns-in-Empty
@@ -145,7 +147,7 @@ element-returns-in-Empty t c =
     let h = c.if-above-ge64.false in
     let p = c.put in
     let got = c.front in
-    let n = c.in-Empty.is in
+    let n = c.in_ok-next.was ∙ ap Ok c.in-Empty.is in
     let f = walking.tag_further_is _ _ got.result _ got.ensures.tag_further n in record { further = (omega (arith, f.0), f.1); element_read = λ st e. walking.opened_tag _ _ _ _ st _ _ _ _ (omega (arith, e, h)) p.ensures (got.ensures.open_read st) n }
 
 pub element-returns-in-Full : goal.element-returns-in-Full
@@ -153,12 +155,14 @@ element-returns-in-Full t c =
     let h = c.if-above-ge64.false in
     let p = c.put in
     let got = c.front in
-    let n = c.in-Full.is in
+    let n = c.in_ok-next.was ∙ ap Ok c.in-Full.is in
     let f = walking.tag_further_is _ _ got.result _ got.ensures.tag_further n in
     let r = c.content in record { further = walking.later _ _ _ r.result (omega (arith, f.0)) r.ensures.further; element_read = λ st e. r.ensures.content_read.1 st (omega (arith, e)) ∙ walking.opened_tag _ _ _ _ st _ _ _ _ (omega (arith, e, h)) p.ensures (got.ensures.open_read st) n }
 
-pub element-returns-in-Refused : goal.element-returns-in-Refused
-element-returns-in-Refused t c =
+pub element-returns-in_err-next : goal.element-returns-in_err-next
+element-returns-in_err-next t c =
     let h = c.if-above-ge64.false in
     let p = c.put in
-    let got = c.front in record { further = tt {0}; element_read = λ st e. walking.opened_tag _ _ _ _ st _ _ _ _ (omega (arith, e, h)) p.ensures (got.ensures.open_read st) c.in-Refused.is }
+    let got = c.front in
+    let x = err_from_is_err_and c.from_residual.result c.from_residual.ensures.1 in
+    rw (x.1, x.2) (record { further = tt {0}; element_read = λ st e. walking.opened_tag _ _ _ _ st _ _ _ _ (omega (arith, e, h)) p.ensures (got.ensures.open_read st) c.in_err-next.was })

@@ -1,11 +1,9 @@
 -- `attributes` meets its contract: from the token that is looked at, the walk goes on as from the tag's first. Assumes nothing.
 use mathlib.Core.Path.{◌≡◌, refl, sym, ap, ◌∙◌}
 use mathlib.Core.Bool.{true}
-use mathlib.Core.List.{List}
-use Prim.Native.Nat.{ℕ, ◌-◌, ◌≤◌}
+use Prim.Native.Nat.{ℕ, ◌-◌}
 use native.Mathlib.Omega.{arith}
-use borrow.Author.Rules.{rules}
-use lib.ListN.{length, get_or}
+use lib.ListN.{get_or}
 use Rattle.body.specs.Reader.{walk, tag}
 use Rattle.body.proofs.Moves.{closes_some}
 use Rattle.body.proofs.Walking as walking
@@ -55,7 +53,8 @@ returns-else-is_item c =
     let got = c.tag_end in record { tag_further = walking.tag_later _ _ _ got.result l.invariant.0 got.ensures.tag_further; tag_read = λ st. got.ensures.tag_end_read true _ (closes_some true _ (walking.above_zero _ n)) (walking.not_told _ k) st ∙ l.invariant.4 st }
 
 pub returns : goal.returns
-returns c = record { tag_further = tt {0}; tag_read = λ st. walking.tag_ended _ _ _ true _ _ st c.loop-i-test.false ∙ c.loop-i.invariant.4 st }
+returns c =
+    rw c.refuse.ensures (record { tag_further = tt {0}; tag_read = λ st. walking.tag_ended _ _ _ true _ _ st c.loop-i-test.false ∙ c.loop-i.invariant.4 st })
 
 pub overflow_add-i : goal.overflow_add-i
 overflow_add-i c = omega arith

@@ -1,7 +1,6 @@
 -- `leaf` meets its contract. Assumes nothing.
 use mathlib.Core.Path.{sym, ◌∙◌}
 use native.Mathlib.Omega.{arith}
-use borrow.Author.Rules.{rules}
 use Rattle.body.proofs.Walking as walking
 use Rattle.body.proofs.reader.leaf.Goals as goal
 
@@ -15,4 +14,4 @@ returns-then-is_leaf c =
 
 pub returns : goal.returns
 returns c =
-    let p = c.requires in record { further = tt {0}; leaf_read = λ st. walking.inside_other _ _ _ p.0 _ st p.1 p.2 c.if-k-eq-PI_TARGET.false (sym c.is_leaf.ensures ∙ c.if-is_leaf.false) }
+    let p = c.requires in rw c.refuse.ensures (record { further = tt {0}; leaf_read = λ st. walking.inside_other _ _ _ p.0 _ st p.1 p.2 c.if-k-eq-PI_TARGET.false (sym c.is_leaf.ensures ∙ c.if-is_leaf.false) })

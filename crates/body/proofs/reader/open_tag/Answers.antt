@@ -1,14 +1,14 @@
 -- `open_tag` meets its contract. Assumes nothing.
-use mathlib.Core.Path.{◌≡◌, sym, ap, ◌∙◌}
+use mathlib.Core.Path.{sym, ap, ◌∙◌}
 use mathlib.Core.Bool.{Bool}
 use Prim.Native.Nat.{◌+◌}
-use borrow.Author.Rules.{rules}
 use Rattle.body.specs.Reader.{walk, tag}
 use Rattle.body.proofs.Walking as walking
 use Rattle.body.proofs.reader.open_tag.Goals as goal
 
 pub returns-then-at-marks : goal.returns-then-at-marks
-returns-then-at-marks c = record { tag_further = tt {0}; open_read = λ st. walking.tag_ended _ _ _ _ _ _ st c.if-at-marks.true }
+returns-then-at-marks c =
+    rw c.refuse.ensures (record { tag_further = tt {0}; open_read = λ st. walking.tag_ended _ _ _ _ _ _ st c.if-at-marks.true })
 
 pub announced_tag-requires : goal.announced_tag-requires
 announced_tag-requires c = (c.if-at-marks.false, c.requires.1)

@@ -1,13 +1,12 @@
 -- `root_at` meets its contract. Assumes nothing.
 use mathlib.Core.Path.{refl, sym, ◌∙◌}
 use native.Mathlib.Omega.{arith}
-use borrow.Author.Rules.{rules}
 use Rattle.body.proofs.Walking as walking
 use Rattle.body.proofs.reader.root_at.Goals as goal
 
 pub returns-then-at-marks : goal.returns-then-at-marks
 returns-then-at-marks c =
-    walking.root_ended _ _ _ c.if-at-marks.true
+    rw c.refuse.ensures (walking.root_ended _ _ _ c.if-at-marks.true)
 
 pub content-requires : goal.content-requires
 content-requires c =
@@ -26,4 +25,4 @@ returns-then-marks-at-eq-INSTANCE c =
 
 pub returns : goal.returns
 returns c =
-    walking.root_other _ _ _ c.if-at-marks.false (sym c.is_open.ensures ∙ c.if-is_open.false) c.if-marks-at-eq-INSTANCE.false
+    rw c.refuse-2.ensures (walking.root_other _ _ _ c.if-at-marks.false (sym c.is_open.ensures ∙ c.if-is_open.false) c.if-marks-at-eq-INSTANCE.false)

@@ -1,6 +1,5 @@
 -- `tag_end` meets its contract. Assumes nothing.
 use native.Mathlib.Omega.{arith}
-use borrow.Author.Rules.{rules}
 use Rattle.body.proofs.Walking as walking
 use Rattle.body.proofs.reader.tag_end.Goals as goal
 
@@ -14,4 +13,4 @@ returns-then-marks-at-eq-CLOSE_START c =
 
 pub returns : goal.returns
 returns c =
-    let p = c.requires in record { tag_further = tt {0}; tag_end_read = λ announced last q i st. walking.tag_other _ _ _ p.0 announced last _ st p.1 c.if-marks-at-eq-CLOSE_EMPTY.false c.if-marks-at-eq-CLOSE_START.false i }
+    let p = c.requires in rw c.refuse.ensures (record { tag_further = tt {0}; tag_end_read = λ announced last q i st. walking.tag_other _ _ _ p.0 announced last _ st p.1 c.if-marks-at-eq-CLOSE_EMPTY.false c.if-marks-at-eq-CLOSE_START.false i })

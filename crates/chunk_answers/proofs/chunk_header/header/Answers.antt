@@ -6,16 +6,16 @@ use Rattle.chunk_answers.specs.Header.{header_on}
 use Rattle.chunk_answers.proofs.Texts.{header_read}
 use Rattle.chunk_answers.proofs.chunk_header.header.Goals as goal
 
-pub returns-in-Read : goal.returns-in-Read
-returns-in-Read c =
+pub returns-in-Ok : goal.returns-in-Ok
+returns-in-Ok c =
     let h = c.read_header-head in
-    put_as (header_read _ h.result _ h.ensures.fields_value h.ensures.strings_value h.ensures.templates_value c.in-Read.is)
+    put_as (header_read _ h.result _ h.ensures.fields_value h.ensures.strings_value h.ensures.templates_value c.in-Ok.is)
     (c.fields-a.ensures
     ▸ c.checksum-b.ensures
     ▸ c.tables.ensures)
 
-pub returns-in-Refused : goal.returns-in-Refused
-returns-in-Refused c =
+pub returns-in-Err : goal.returns-in-Err
+returns-in-Err c =
     let h = c.read_header-head in
-    let e = ap fields_answer (sym c.in-Refused.is) ∙ h.ensures.fields_value in
+    let e = ap fields_answer (sym c.in-Err.is) ∙ h.ensures.fields_value in
     put_as (ap (header_on _) e) c.refused.ensures

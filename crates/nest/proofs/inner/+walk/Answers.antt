@@ -1,42 +1,37 @@
 -- `walk` meets its contract: it calls itself with the remaining levels falling, and each event of its loop keeps what was noted. Assumes nothing.
 use mathlib.Core.Path.{refl}
-use Prim.Native.Nat.{ℕ, ◌-◌}
+use Prim.Native.Nat.{◌-◌}
 use native.Mathlib.Omega.{arith}
 use Rattle.body.specs.Reader.{verdict_on}
 use Rattle.nest.specs.Nested.{deepest_body, body_at, nest_at}
 use Rattle.nest.proofs.Nesting.{prepended_none}
 use Rattle.nest.proofs.Kept as kept
 use Rattle.nest.proofs.Standing as standing
-use mathlib.Core.Path.{refl, sym, ap, ◌∙◌}
-use Prim.Native.Nat.{ℕ, ◌+◌, ◌-◌, ◌*◌, ◌≤◌}
-use borrow.Author.Rules.{rules}
+use mathlib.Core.Path.{sym, ap, ◌∙◌}
+use Prim.Native.Nat.{◌+◌, ◌*◌, ◌≤◌}
 use borrow.Author.Tests.{ltb-true}
 use lib.ListN.{length, length-set}
 use lib.Seq.{length-sets}
 use Rattle.sheet.specs.Sheet.{mark_of}
-use Rattle.nest.specs.Nested.{deepest_body, body_at, nest_at, words_at}
+use Rattle.nest.specs.Nested.{words_at}
 use Rattle.nest.proofs.Noting as noting
-use mathlib.Core.Path.{refl, sym, ap, subst, ◌∙◌}
+use mathlib.Core.Path.{subst}
 use mathlib.Core.Bool.{true}
 use mathlib.Core.Logic.{inl, inr, ⊎_elim}
 use lib.ListN.{take}
 use lib.Seq.{sets, length-take-le, take_at}
 use Rattle.cursor.specs.Answers.{count_answer}
 use Rattle.tokens.specs.declared.Flags.{Flags}
-use Rattle.nest.specs.Nested.{deepest_body, body_at, nest_at, sheet_of, owners_of}
+use Rattle.nest.specs.Nested.{sheet_of, owners_of}
 use Rattle.nest.specs.Pieces.{WalkRead, window_by}
 use Rattle.nest.proofs.Numbers.{part_length}
 use Rattle.nest.proofs.Bodies as bodies
 use Rattle.nest.proofs.Closing as closing
-use mathlib.Core.Path.{sym, ap, ◌∙◌}
-use Prim.Native.Nat.{ℕ, ◌-◌, ◌*◌, ◌≤◌}
-use lib.ListN.{length}
 use Rattle.nest.proofs.Moving as moving
-use mathlib.Core.Path.{sym, ◌∙◌}
-use Prim.Native.Nat.{ℕ, ◌-◌, ◌≤◌}
 use borrow.Author.Tests.{ltb-false}
 use Rattle.nest.specs.Pieces.{last_of}
 use Rattle.nest.proofs.Ending as ending
+use Rattle.std.proofs.lemmas.Result.{err_from_is_err_and}
 use Rattle.nest.proofs.inner.+walk.Goals as goal
 
 pub loop-on-init : goal.loop-on-init
@@ -48,13 +43,17 @@ pub next-stop-requires : goal.next-stop-requires
 next-stop-requires t c =
     let l = c.loop-on in
     let a = c.args in
+    let inner = body_at verdict_on a.s.now a.flags.inline a.left in
+    let whole = nest_at a.s.now inner a.end a.flags a.first a.start in
     let p = c.requires in
-    record { left_le_deepest_body = (p.left_le_deepest_body.0, p.left_le_deepest_body.3, standing.stands_near (deepest_body - a.left) a.first a.sheet.now a.table.now a.s.now (body_at verdict_on a.s.now a.flags.inline a.left) a.end a.flags (nest_at a.s.now (body_at verdict_on a.s.now a.flags.inline a.left) a.end a.flags a.first a.start) l.place l.n l.own l.k l.marks l.numbers l.sheet l.table l.invariant.0); marks_len = (omega (arith, l.invariant.1, l.invariant.2, p.marks_len.0), l.invariant.6, omega (arith, standing.stands_few (deepest_body - a.left) a.first a.sheet.now a.table.now a.s.now (body_at verdict_on a.s.now a.flags.inline a.left) a.end a.flags (nest_at a.s.now (body_at verdict_on a.s.now a.flags.inline a.left) a.end a.flags a.first a.start) l.place l.n l.own l.k l.marks l.numbers l.sheet l.table l.invariant.0)) }
+    record { left_le_deepest_body = (p.left_le_deepest_body.0, p.left_le_deepest_body.3, standing.stands_near (deepest_body - a.left) a.first a.sheet.now a.table.now a.s.now inner a.end a.flags whole l.place l.n l.own l.k l.marks l.numbers l.sheet l.table l.invariant.0); marks_len = (omega (arith, l.invariant.1, l.invariant.2, p.marks_len.0), l.invariant.6, omega (arith, standing.stands_few (deepest_body - a.left) a.first a.sheet.now a.table.now a.s.now inner a.end a.flags whole l.place l.n l.own l.k l.marks l.numbers l.sheet l.table l.invariant.0)) }
 
 pub note-requires : goal.note-requires
 note-requires t c =
     let l = c.loop-on in
     let a = c.args in
+    let inner = body_at verdict_on a.s.now a.flags.inline a.left in
+    let whole = nest_at a.s.now inner a.end a.flags a.first a.start in
     let p = c.requires in
     let x = c.next-stop in
     let R = x.result in
@@ -62,59 +61,21 @@ note-requires t c =
     let N = x.new.numbers in
     let S = x.new.sheet in
     let d = x.ensures in
-    let q = standing.reached a.left a.first a.sheet.now a.table.now a.s.now (body_at verdict_on a.s.now a.flags.inline a.left) a.end a.flags (nest_at a.s.now (body_at verdict_on a.s.now a.flags.inline a.left) a.end a.flags a.first a.start) l.place l.n l.own l.k l.marks l.numbers l.sheet M N S l.table R l.invariant.0 d in
+    let q = standing.reached a.left a.first a.sheet.now a.table.now a.s.now inner a.end a.flags whole l.place l.n l.own l.k l.marks l.numbers l.sheet M N S l.table R l.invariant.0 d in
     let i1 = d.marks_same ∙ l.invariant.1 in
     let i2 = d.numbers_same ∙ l.invariant.2 in
-    let i4 = d.sheet_same ∙ l.invariant.4 in
-    let i7 : l.own ≤ R.n = omega (arith, d.counted, l.invariant.7) in
     let e = sym q.met ∙ c.in-Token.is in
-    let r = ltb-true R.k (length M) (noting.token_room (deepest_body - a.left) a.first a.sheet.now a.table.now a.s.now (body_at verdict_on a.s.now a.flags.inline a.left) a.end a.flags (nest_at a.s.now (body_at verdict_on a.s.now a.flags.inline a.left) a.end a.flags a.first a.start) a.left _ q.from c.in-Token.on c.in-Token.t e) in
-    let g = noting.on_token (deepest_body - a.left) a.first a.sheet.now a.table.now a.s.now (body_at verdict_on a.s.now a.flags.inline a.left) a.end a.flags (nest_at a.s.now (body_at verdict_on a.s.now a.flags.inline a.left) a.end a.flags a.first a.start) p.left_le_deepest_body.3 R.n l.own R.k M N S l.table a.left _ c.in-Token.t c.in-Token.on _ _ _ r (omega (arith, r, p.marks_len.0, i1, i2)) refl refl refl q.from q.stands e in
-    let z = standing.stands_short (deepest_body - a.left) a.first a.sheet.now a.table.now a.s.now (body_at verdict_on a.s.now a.flags.inline a.left) a.end a.flags (nest_at a.s.now (body_at verdict_on a.s.now a.flags.inline a.left) a.end a.flags a.first a.start) c.in-Token.on (R.n + 1) R.n (R.k + 1) _ _ _ l.table g.0 in
+    let r = ltb-true R.k (length M) (noting.token_room (deepest_body - a.left) a.first a.sheet.now a.table.now a.s.now inner a.end a.flags whole a.left _ q.from c.in-Token.on c.in-Token.t e) in
+    let g = noting.on_token (deepest_body - a.left) a.first a.sheet.now a.table.now a.s.now inner a.end a.flags whole p.left_le_deepest_body.3 R.n l.own R.k M N S l.table a.left _ c.in-Token.t c.in-Token.on _ _ _ r (omega (arith, r, p.marks_len.0, i1, i2)) refl refl refl q.from q.stands e in
+    let z = standing.stands_short (deepest_body - a.left) a.first a.sheet.now a.table.now a.s.now inner a.end a.flags whole c.in-Token.on (R.n + 1) R.n (R.k + 1) _ _ _ l.table g.0 in
     (r, omega (arith, r, p.marks_len.0, i1, i2), omega (arith, z, p.left_le_deepest_body.3), p.left_le_deepest_body.0)
-
-pub overflow_add-n : goal.overflow_add-n
-overflow_add-n t c =
-    let l = c.loop-on in
-    let a = c.args in
-    let p = c.requires in
-    let x = c.next-stop in
-    let R = x.result in
-    let M = x.new.marks in
-    let N = x.new.numbers in
-    let S = x.new.sheet in
-    let d = x.ensures in
-    let q = standing.reached a.left a.first a.sheet.now a.table.now a.s.now (body_at verdict_on a.s.now a.flags.inline a.left) a.end a.flags (nest_at a.s.now (body_at verdict_on a.s.now a.flags.inline a.left) a.end a.flags a.first a.start) l.place l.n l.own l.k l.marks l.numbers l.sheet M N S l.table R l.invariant.0 d in
-    let i1 = d.marks_same ∙ l.invariant.1 in
-    let i2 = d.numbers_same ∙ l.invariant.2 in
-    let i4 = d.sheet_same ∙ l.invariant.4 in
-    let i7 : l.own ≤ R.n = omega (arith, d.counted, l.invariant.7) in
-    let e = sym q.met ∙ c.in-Token.is in
-    omega (arith, standing.stands_short (deepest_body - a.left) a.first a.sheet.now a.table.now a.s.now (body_at verdict_on a.s.now a.flags.inline a.left) a.end a.flags (nest_at a.s.now (body_at verdict_on a.s.now a.flags.inline a.left) a.end a.flags a.first a.start) q.from R.n l.own R.k M N S l.table q.stands, p.left_le_deepest_body.3)
-
-pub overflow_add-k : goal.overflow_add-k
-overflow_add-k t c =
-    let l = c.loop-on in
-    let a = c.args in
-    let p = c.requires in
-    let x = c.next-stop in
-    let R = x.result in
-    let M = x.new.marks in
-    let N = x.new.numbers in
-    let S = x.new.sheet in
-    let d = x.ensures in
-    let q = standing.reached a.left a.first a.sheet.now a.table.now a.s.now (body_at verdict_on a.s.now a.flags.inline a.left) a.end a.flags (nest_at a.s.now (body_at verdict_on a.s.now a.flags.inline a.left) a.end a.flags a.first a.start) l.place l.n l.own l.k l.marks l.numbers l.sheet M N S l.table R l.invariant.0 d in
-    let i1 = d.marks_same ∙ l.invariant.1 in
-    let i2 = d.numbers_same ∙ l.invariant.2 in
-    let i4 = d.sheet_same ∙ l.invariant.4 in
-    let i7 : l.own ≤ R.n = omega (arith, d.counted, l.invariant.7) in
-    let e = sym q.met ∙ c.in-Token.is in
-    omega (arith, standing.stands_short (deepest_body - a.left) a.first a.sheet.now a.table.now a.s.now (body_at verdict_on a.s.now a.flags.inline a.left) a.end a.flags (nest_at a.s.now (body_at verdict_on a.s.now a.flags.inline a.left) a.end a.flags a.first a.start) q.from R.n l.own R.k M N S l.table q.stands, standing.stands_few (deepest_body - a.left) a.first a.sheet.now a.table.now a.s.now (body_at verdict_on a.s.now a.flags.inline a.left) a.end a.flags (nest_at a.s.now (body_at verdict_on a.s.now a.flags.inline a.left) a.end a.flags a.first a.start) q.from R.n l.own R.k M N S l.table q.stands, p.left_le_deepest_body.3)
 
 pub loop-on-smaller-in-Token : goal.loop-on-smaller-in-Token
 loop-on-smaller-in-Token t c =
     let l = c.loop-on in
     let a = c.args in
+    let inner = body_at verdict_on a.s.now a.flags.inline a.left in
+    let whole = nest_at a.s.now inner a.end a.flags a.first a.start in
     let p = c.requires in
     let x = c.next-stop in
     let R = x.result in
@@ -122,21 +83,21 @@ loop-on-smaller-in-Token t c =
     let N = x.new.numbers in
     let S = x.new.sheet in
     let d = x.ensures in
-    let q = standing.reached a.left a.first a.sheet.now a.table.now a.s.now (body_at verdict_on a.s.now a.flags.inline a.left) a.end a.flags (nest_at a.s.now (body_at verdict_on a.s.now a.flags.inline a.left) a.end a.flags a.first a.start) l.place l.n l.own l.k l.marks l.numbers l.sheet M N S l.table R l.invariant.0 d in
+    let q = standing.reached a.left a.first a.sheet.now a.table.now a.s.now inner a.end a.flags whole l.place l.n l.own l.k l.marks l.numbers l.sheet M N S l.table R l.invariant.0 d in
     let i1 = d.marks_same ∙ l.invariant.1 in
     let i2 = d.numbers_same ∙ l.invariant.2 in
-    let i4 = d.sheet_same ∙ l.invariant.4 in
-    let i7 : l.own ≤ R.n = omega (arith, d.counted, l.invariant.7) in
     let e = sym q.met ∙ c.in-Token.is in
-    let r = ltb-true R.k (length M) (noting.token_room (deepest_body - a.left) a.first a.sheet.now a.table.now a.s.now (body_at verdict_on a.s.now a.flags.inline a.left) a.end a.flags (nest_at a.s.now (body_at verdict_on a.s.now a.flags.inline a.left) a.end a.flags a.first a.start) a.left _ q.from c.in-Token.on c.in-Token.t e) in
+    let r = ltb-true R.k (length M) (noting.token_room (deepest_body - a.left) a.first a.sheet.now a.table.now a.s.now inner a.end a.flags whole a.left _ q.from c.in-Token.on c.in-Token.t e) in
     let E = c.note.ensures in
-    let g = noting.on_token (deepest_body - a.left) a.first a.sheet.now a.table.now a.s.now (body_at verdict_on a.s.now a.flags.inline a.left) a.end a.flags (nest_at a.s.now (body_at verdict_on a.s.now a.flags.inline a.left) a.end a.flags a.first a.start) p.left_le_deepest_body.3 R.n l.own R.k M N S l.table a.left _ c.in-Token.t c.in-Token.on _ _ _ r (omega (arith, r, p.marks_len.0, i1, i2)) E.marks_after E.numbers_after E.sheet_after q.from q.stands e in
+    let g = noting.on_token (deepest_body - a.left) a.first a.sheet.now a.table.now a.s.now inner a.end a.flags whole p.left_le_deepest_body.3 R.n l.own R.k M N S l.table a.left _ c.in-Token.t c.in-Token.on _ _ _ r (omega (arith, r, p.marks_len.0, i1, i2)) E.marks_after E.numbers_after E.sheet_after q.from q.stands e in
     standing.less_than _ _ _ g.1 q.less
 
 pub loop-on-preserved-in-Token : goal.loop-on-preserved-in-Token
 loop-on-preserved-in-Token t c =
     let l = c.loop-on in
     let a = c.args in
+    let inner = body_at verdict_on a.s.now a.flags.inline a.left in
+    let whole = nest_at a.s.now inner a.end a.flags a.first a.start in
     let p = c.requires in
     let x = c.next-stop in
     let R = x.result in
@@ -144,15 +105,14 @@ loop-on-preserved-in-Token t c =
     let N = x.new.numbers in
     let S = x.new.sheet in
     let d = x.ensures in
-    let q = standing.reached a.left a.first a.sheet.now a.table.now a.s.now (body_at verdict_on a.s.now a.flags.inline a.left) a.end a.flags (nest_at a.s.now (body_at verdict_on a.s.now a.flags.inline a.left) a.end a.flags a.first a.start) l.place l.n l.own l.k l.marks l.numbers l.sheet M N S l.table R l.invariant.0 d in
+    let q = standing.reached a.left a.first a.sheet.now a.table.now a.s.now inner a.end a.flags whole l.place l.n l.own l.k l.marks l.numbers l.sheet M N S l.table R l.invariant.0 d in
     let i1 = d.marks_same ∙ l.invariant.1 in
     let i2 = d.numbers_same ∙ l.invariant.2 in
     let i4 = d.sheet_same ∙ l.invariant.4 in
-    let i7 : l.own ≤ R.n = omega (arith, d.counted, l.invariant.7) in
     let e = sym q.met ∙ c.in-Token.is in
-    let r = ltb-true R.k (length M) (noting.token_room (deepest_body - a.left) a.first a.sheet.now a.table.now a.s.now (body_at verdict_on a.s.now a.flags.inline a.left) a.end a.flags (nest_at a.s.now (body_at verdict_on a.s.now a.flags.inline a.left) a.end a.flags a.first a.start) a.left _ q.from c.in-Token.on c.in-Token.t e) in
+    let r = ltb-true R.k (length M) (noting.token_room (deepest_body - a.left) a.first a.sheet.now a.table.now a.s.now inner a.end a.flags whole a.left _ q.from c.in-Token.on c.in-Token.t e) in
     let E = c.note.ensures in
-    let g = noting.on_token (deepest_body - a.left) a.first a.sheet.now a.table.now a.s.now (body_at verdict_on a.s.now a.flags.inline a.left) a.end a.flags (nest_at a.s.now (body_at verdict_on a.s.now a.flags.inline a.left) a.end a.flags a.first a.start) p.left_le_deepest_body.3 R.n l.own R.k M N S l.table a.left _ c.in-Token.t c.in-Token.on _ _ _ r (omega (arith, r, p.marks_len.0, i1, i2)) E.marks_after E.numbers_after E.sheet_after q.from q.stands e in
+    let g = noting.on_token (deepest_body - a.left) a.first a.sheet.now a.table.now a.s.now inner a.end a.flags whole p.left_le_deepest_body.3 R.n l.own R.k M N S l.table a.left _ c.in-Token.t c.in-Token.on _ _ _ r (omega (arith, r, p.marks_len.0, i1, i2)) E.marks_after E.numbers_after E.sheet_after q.from q.stands e in
     let m = ap length E.marks_after ∙ length-set M R.k (mark_of c.in-Token.t) in
     (g.0, m ∙ i1, ap length E.numbers_after ∙ length-set N R.k R.n ∙ i2, l.invariant.3, ap length E.sheet_after ∙ length-sets S (R.n * 2) (words_at (deepest_body - a.left) c.in-Token.t) ∙ i4, l.invariant.5, omega (arith, r, m), omega arith)
 
@@ -160,6 +120,8 @@ pub overflow_add-at : goal.overflow_add-at
 overflow_add-at t c =
     let l = c.loop-on in
     let a = c.args in
+    let inner = body_at verdict_on a.s.now a.flags.inline a.left in
+    let whole = nest_at a.s.now inner a.end a.flags a.first a.start in
     let p = c.requires in
     let x = c.next-stop in
     let R = x.result in
@@ -167,20 +129,18 @@ overflow_add-at t c =
     let N = x.new.numbers in
     let S = x.new.sheet in
     let d = x.ensures in
-    let q = standing.reached a.left a.first a.sheet.now a.table.now a.s.now (body_at verdict_on a.s.now a.flags.inline a.left) a.end a.flags (nest_at a.s.now (body_at verdict_on a.s.now a.flags.inline a.left) a.end a.flags a.first a.start) l.place l.n l.own l.k l.marks l.numbers l.sheet M N S l.table R l.invariant.0 d in
-    let i1 = d.marks_same ∙ l.invariant.1 in
-    let i2 = d.numbers_same ∙ l.invariant.2 in
-    let i4 = d.sheet_same ∙ l.invariant.4 in
-    let i7 : l.own ≤ R.n = omega (arith, d.counted, l.invariant.7) in
+    let q = standing.reached a.left a.first a.sheet.now a.table.now a.s.now inner a.end a.flags whole l.place l.n l.own l.k l.marks l.numbers l.sheet M N S l.table R l.invariant.0 d in
     let e = sym q.met ∙ c.in-Body.is in
-    let b = bodies.on_body (deepest_body - a.left) a.first a.sheet.now a.table.now a.s.now (body_at verdict_on a.s.now a.flags.inline a.left) a.end a.flags (nest_at a.s.now (body_at verdict_on a.s.now a.flags.inline a.left) a.end a.flags a.first a.start) p.left_le_deepest_body.3 R.n l.own R.k M N S l.table a.left _ q.from c.in-Body.back c.in-Body.at c.in-Body.size q.stands e in
-    let z = bodies.body_starts (deepest_body - a.left) a.first a.sheet.now a.table.now a.s.now (body_at verdict_on a.s.now a.flags.inline a.left) a.end a.flags (nest_at a.s.now (body_at verdict_on a.s.now a.flags.inline a.left) a.end a.flags a.first a.start) p.left_le_deepest_body.3 R.n l.own R.k M N S l.table a.left _ q.from c.in-Body.back c.in-Body.at c.in-Body.size b in
+    let b = bodies.on_body (deepest_body - a.left) a.first a.sheet.now a.table.now a.s.now inner a.end a.flags whole p.left_le_deepest_body.3 R.n l.own R.k M N S l.table a.left _ q.from c.in-Body.back c.in-Body.at c.in-Body.size q.stands e in
+    let z = bodies.body_starts (deepest_body - a.left) a.first a.sheet.now a.table.now a.s.now inner a.end a.flags whole p.left_le_deepest_body.3 R.n l.own R.k M N S l.table a.left _ q.from c.in-Body.back c.in-Body.at c.in-Body.size b in
     omega (arith, z.2, p.left_le_deepest_body.3)
 
 pub overflow_sub-left : goal.overflow_sub-left
 overflow_sub-left t c =
     let l = c.loop-on in
     let a = c.args in
+    let inner = body_at verdict_on a.s.now a.flags.inline a.left in
+    let whole = nest_at a.s.now inner a.end a.flags a.first a.start in
     let p = c.requires in
     let x = c.next-stop in
     let R = x.result in
@@ -188,46 +148,17 @@ overflow_sub-left t c =
     let N = x.new.numbers in
     let S = x.new.sheet in
     let d = x.ensures in
-    let q = standing.reached a.left a.first a.sheet.now a.table.now a.s.now (body_at verdict_on a.s.now a.flags.inline a.left) a.end a.flags (nest_at a.s.now (body_at verdict_on a.s.now a.flags.inline a.left) a.end a.flags a.first a.start) l.place l.n l.own l.k l.marks l.numbers l.sheet M N S l.table R l.invariant.0 d in
-    let i1 = d.marks_same ∙ l.invariant.1 in
-    let i2 = d.numbers_same ∙ l.invariant.2 in
-    let i4 = d.sheet_same ∙ l.invariant.4 in
-    let i7 : l.own ≤ R.n = omega (arith, d.counted, l.invariant.7) in
+    let q = standing.reached a.left a.first a.sheet.now a.table.now a.s.now inner a.end a.flags whole l.place l.n l.own l.k l.marks l.numbers l.sheet M N S l.table R l.invariant.0 d in
     let e = sym q.met ∙ c.in-Body.is in
-    let b = bodies.on_body (deepest_body - a.left) a.first a.sheet.now a.table.now a.s.now (body_at verdict_on a.s.now a.flags.inline a.left) a.end a.flags (nest_at a.s.now (body_at verdict_on a.s.now a.flags.inline a.left) a.end a.flags a.first a.start) p.left_le_deepest_body.3 R.n l.own R.k M N S l.table a.left _ q.from c.in-Body.back c.in-Body.at c.in-Body.size q.stands e in
-    let z = bodies.body_starts (deepest_body - a.left) a.first a.sheet.now a.table.now a.s.now (body_at verdict_on a.s.now a.flags.inline a.left) a.end a.flags (nest_at a.s.now (body_at verdict_on a.s.now a.flags.inline a.left) a.end a.flags a.first a.start) p.left_le_deepest_body.3 R.n l.own R.k M N S l.table a.left _ q.from c.in-Body.back c.in-Body.at c.in-Body.size b in
+    let b = bodies.on_body (deepest_body - a.left) a.first a.sheet.now a.table.now a.s.now inner a.end a.flags whole p.left_le_deepest_body.3 R.n l.own R.k M N S l.table a.left _ q.from c.in-Body.back c.in-Body.at c.in-Body.size q.stands e in
     omega (arith, b.levels)
-
-pub slice_bounds-walk-count : goal.slice_bounds-walk-count
-slice_bounds-walk-count t c =
-    let l = c.loop-on in
-    let d = c.next-stop.ensures in
-    omega (arith, d.fits)
-
-pub offset_bounds-numbers-k : goal.offset_bounds-numbers-k
-offset_bounds-numbers-k t c =
-    let l = c.loop-on in
-    let a = c.args in
-    let p = c.requires in
-    let x = c.next-stop in
-    let R = x.result in
-    let M = x.new.marks in
-    let N = x.new.numbers in
-    let S = x.new.sheet in
-    let d = x.ensures in
-    let q = standing.reached a.left a.first a.sheet.now a.table.now a.s.now (body_at verdict_on a.s.now a.flags.inline a.left) a.end a.flags (nest_at a.s.now (body_at verdict_on a.s.now a.flags.inline a.left) a.end a.flags a.first a.start) l.place l.n l.own l.k l.marks l.numbers l.sheet M N S l.table R l.invariant.0 d in
-    omega (arith, standing.stands_few (deepest_body - a.left) a.first a.sheet.now a.table.now a.s.now (body_at verdict_on a.s.now a.flags.inline a.left) a.end a.flags (nest_at a.s.now (body_at verdict_on a.s.now a.flags.inline a.left) a.end a.flags a.first a.start) q.from R.n l.own R.k M N S l.table q.stands, standing.stands_short (deepest_body - a.left) a.first a.sheet.now a.table.now a.s.now (body_at verdict_on a.s.now a.flags.inline a.left) a.end a.flags (nest_at a.s.now (body_at verdict_on a.s.now a.flags.inline a.left) a.end a.flags a.first a.start) q.from R.n l.own R.k M N S l.table q.stands, p.left_le_deepest_body.3)
-
-pub slice_bounds-walk-count-in-Body : goal.slice_bounds-walk-count-in-Body
-slice_bounds-walk-count-in-Body t c =
-    let l = c.loop-on in
-    let d = c.next-stop.ensures in
-    omega (arith, d.fits, d.marks_same, d.numbers_same, l.invariant.1, l.invariant.2, c.requires.marks_len.0)
 
 pub walk-requires : goal.walk-requires
 walk-requires t c =
     let l = c.loop-on in
     let a = c.args in
+    let inner = body_at verdict_on a.s.now a.flags.inline a.left in
+    let whole = nest_at a.s.now inner a.end a.flags a.first a.start in
     let p = c.requires in
     let x = c.next-stop in
     let R = x.result in
@@ -235,22 +166,22 @@ walk-requires t c =
     let N = x.new.numbers in
     let S = x.new.sheet in
     let d = x.ensures in
-    let q = standing.reached a.left a.first a.sheet.now a.table.now a.s.now (body_at verdict_on a.s.now a.flags.inline a.left) a.end a.flags (nest_at a.s.now (body_at verdict_on a.s.now a.flags.inline a.left) a.end a.flags a.first a.start) l.place l.n l.own l.k l.marks l.numbers l.sheet M N S l.table R l.invariant.0 d in
+    let q = standing.reached a.left a.first a.sheet.now a.table.now a.s.now inner a.end a.flags whole l.place l.n l.own l.k l.marks l.numbers l.sheet M N S l.table R l.invariant.0 d in
     let i1 = d.marks_same ∙ l.invariant.1 in
     let i2 = d.numbers_same ∙ l.invariant.2 in
-    let i4 = d.sheet_same ∙ l.invariant.4 in
-    let i7 : l.own ≤ R.n = omega (arith, d.counted, l.invariant.7) in
     let e = sym q.met ∙ c.in-Body.is in
-    let b = bodies.on_body (deepest_body - a.left) a.first a.sheet.now a.table.now a.s.now (body_at verdict_on a.s.now a.flags.inline a.left) a.end a.flags (nest_at a.s.now (body_at verdict_on a.s.now a.flags.inline a.left) a.end a.flags a.first a.start) p.left_le_deepest_body.3 R.n l.own R.k M N S l.table a.left _ q.from c.in-Body.back c.in-Body.at c.in-Body.size q.stands e in
-    let z = bodies.body_starts (deepest_body - a.left) a.first a.sheet.now a.table.now a.s.now (body_at verdict_on a.s.now a.flags.inline a.left) a.end a.flags (nest_at a.s.now (body_at verdict_on a.s.now a.flags.inline a.left) a.end a.flags a.first a.start) p.left_le_deepest_body.3 R.n l.own R.k M N S l.table a.left _ q.from c.in-Body.back c.in-Body.at c.in-Body.size b in
+    let b = bodies.on_body (deepest_body - a.left) a.first a.sheet.now a.table.now a.s.now inner a.end a.flags whole p.left_le_deepest_body.3 R.n l.own R.k M N S l.table a.left _ q.from c.in-Body.back c.in-Body.at c.in-Body.size q.stands e in
+    let z = bodies.body_starts (deepest_body - a.left) a.first a.sheet.now a.table.now a.s.now inner a.end a.flags whole p.left_le_deepest_body.3 R.n l.own R.k M N S l.table a.left _ q.from c.in-Body.back c.in-Body.at c.in-Body.size b in
     let m = part_length M R.k in
     let n = part_length N R.k in
     (omega (arith, b.levels), ((omega (arith, p.left_le_deepest_body.0), z.0, z.1, p.left_le_deepest_body.3), (omega (arith, m, n, i1, i2, p.marks_len.0), omega (arith, m, i1, l.invariant.3, p.marks_len.1))))
 
-pub loop-on-smaller-in-Count : goal.loop-on-smaller-in-Count
-loop-on-smaller-in-Count t c =
+pub loop-on-smaller-in-Body : goal.loop-on-smaller-in-Body
+loop-on-smaller-in-Body t c =
     let l = c.loop-on in
     let a = c.args in
+    let inner = body_at verdict_on a.s.now a.flags.inline a.left in
+    let whole = nest_at a.s.now inner a.end a.flags a.first a.start in
     let p = c.requires in
     let x = c.next-stop in
     let R = x.result in
@@ -258,25 +189,22 @@ loop-on-smaller-in-Count t c =
     let N = x.new.numbers in
     let S = x.new.sheet in
     let d = x.ensures in
-    let q = standing.reached a.left a.first a.sheet.now a.table.now a.s.now (body_at verdict_on a.s.now a.flags.inline a.left) a.end a.flags (nest_at a.s.now (body_at verdict_on a.s.now a.flags.inline a.left) a.end a.flags a.first a.start) l.place l.n l.own l.k l.marks l.numbers l.sheet M N S l.table R l.invariant.0 d in
-    let i1 = d.marks_same ∙ l.invariant.1 in
-    let i2 = d.numbers_same ∙ l.invariant.2 in
-    let i4 = d.sheet_same ∙ l.invariant.4 in
-    let i7 : l.own ≤ R.n = omega (arith, d.counted, l.invariant.7) in
+    let q = standing.reached a.left a.first a.sheet.now a.table.now a.s.now inner a.end a.flags whole l.place l.n l.own l.k l.marks l.numbers l.sheet M N S l.table R l.invariant.0 d in
     let e = sym q.met ∙ c.in-Body.is in
-    let b = bodies.on_body (deepest_body - a.left) a.first a.sheet.now a.table.now a.s.now (body_at verdict_on a.s.now a.flags.inline a.left) a.end a.flags (nest_at a.s.now (body_at verdict_on a.s.now a.flags.inline a.left) a.end a.flags a.first a.start) p.left_le_deepest_body.3 R.n l.own R.k M N S l.table a.left _ q.from c.in-Body.back c.in-Body.at c.in-Body.size q.stands e in
-    let z = bodies.body_starts (deepest_body - a.left) a.first a.sheet.now a.table.now a.s.now (body_at verdict_on a.s.now a.flags.inline a.left) a.end a.flags (nest_at a.s.now (body_at verdict_on a.s.now a.flags.inline a.left) a.end a.flags a.first a.start) p.left_le_deepest_body.3 R.n l.own R.k M N S l.table a.left _ q.from c.in-Body.back c.in-Body.at c.in-Body.size b in
+    let b = bodies.on_body (deepest_body - a.left) a.first a.sheet.now a.table.now a.s.now inner a.end a.flags whole p.left_le_deepest_body.3 R.n l.own R.k M N S l.table a.left _ q.from c.in-Body.back c.in-Body.at c.in-Body.size q.stands e in
     let X =
     closing.body_is a.s.now a.flags.inline a.left R.n c.in-Body.at c.in-Body.size b.levels
     ∙ ap (λ (f : Flags). window_by a.s.now (a.left - 1) true f R.n c.in-Body.at (c.in-Body.at + c.in-Body.size)) (sym c.without_dependencies.ensures) in
-    let w = subst (WalkRead _ _ _ _ _ _ _ _ _ _) (ap count_answer c.in-Count.is) c.walk.ensures in
-    let g = bodies.body_read (deepest_body - a.left) a.first a.sheet.now a.table.now a.s.now (body_at verdict_on a.s.now a.flags.inline a.left) a.end a.flags (nest_at a.s.now (body_at verdict_on a.s.now a.flags.inline a.left) a.end a.flags a.first a.start) p.left_le_deepest_body.3 R.n l.own R.k M N S l.table a.left _ q.from c.in-Body.back c.in-Body.at c.in-Body.size b w.0.entries _ M N (sets S (R.n * 2) (sheet_of w.0.entries)) (sets l.table R.n (owners_of w.0.entries)) (X ∙ w.0.holds) w.0.count (w.1 refl) refl refl refl refl in
+    let w = subst (WalkRead _ _ _ _ _ _ _ _ _ _) (ap count_answer c.in_ok-n-in-Body.was) c.walk.ensures in
+    let g = bodies.body_read (deepest_body - a.left) a.first a.sheet.now a.table.now a.s.now inner a.end a.flags whole p.left_le_deepest_body.3 R.n l.own R.k M N S l.table a.left _ q.from c.in-Body.back c.in-Body.at c.in-Body.size b w.0.entries _ M N (sets S (R.n * 2) (sheet_of w.0.entries)) (sets l.table R.n (owners_of w.0.entries)) (X ∙ w.0.holds) w.0.count (w.1 refl) refl refl refl refl in
     standing.less_than _ _ _ g.1 q.less
 
-pub loop-on-preserved-in-Count : goal.loop-on-preserved-in-Count
-loop-on-preserved-in-Count t c =
+pub loop-on-preserved-in-Body : goal.loop-on-preserved-in-Body
+loop-on-preserved-in-Body t c =
     let l = c.loop-on in
     let a = c.args in
+    let inner = body_at verdict_on a.s.now a.flags.inline a.left in
+    let whole = nest_at a.s.now inner a.end a.flags a.first a.start in
     let p = c.requires in
     let x = c.next-stop in
     let R = x.result in
@@ -284,53 +212,26 @@ loop-on-preserved-in-Count t c =
     let N = x.new.numbers in
     let S = x.new.sheet in
     let d = x.ensures in
-    let q = standing.reached a.left a.first a.sheet.now a.table.now a.s.now (body_at verdict_on a.s.now a.flags.inline a.left) a.end a.flags (nest_at a.s.now (body_at verdict_on a.s.now a.flags.inline a.left) a.end a.flags a.first a.start) l.place l.n l.own l.k l.marks l.numbers l.sheet M N S l.table R l.invariant.0 d in
+    let q = standing.reached a.left a.first a.sheet.now a.table.now a.s.now inner a.end a.flags whole l.place l.n l.own l.k l.marks l.numbers l.sheet M N S l.table R l.invariant.0 d in
     let i1 = d.marks_same ∙ l.invariant.1 in
     let i2 = d.numbers_same ∙ l.invariant.2 in
     let i4 = d.sheet_same ∙ l.invariant.4 in
     let i7 : l.own ≤ R.n = omega (arith, d.counted, l.invariant.7) in
     let e = sym q.met ∙ c.in-Body.is in
-    let b = bodies.on_body (deepest_body - a.left) a.first a.sheet.now a.table.now a.s.now (body_at verdict_on a.s.now a.flags.inline a.left) a.end a.flags (nest_at a.s.now (body_at verdict_on a.s.now a.flags.inline a.left) a.end a.flags a.first a.start) p.left_le_deepest_body.3 R.n l.own R.k M N S l.table a.left _ q.from c.in-Body.back c.in-Body.at c.in-Body.size q.stands e in
-    let z = bodies.body_starts (deepest_body - a.left) a.first a.sheet.now a.table.now a.s.now (body_at verdict_on a.s.now a.flags.inline a.left) a.end a.flags (nest_at a.s.now (body_at verdict_on a.s.now a.flags.inline a.left) a.end a.flags a.first a.start) p.left_le_deepest_body.3 R.n l.own R.k M N S l.table a.left _ q.from c.in-Body.back c.in-Body.at c.in-Body.size b in
+    let b = bodies.on_body (deepest_body - a.left) a.first a.sheet.now a.table.now a.s.now inner a.end a.flags whole p.left_le_deepest_body.3 R.n l.own R.k M N S l.table a.left _ q.from c.in-Body.back c.in-Body.at c.in-Body.size q.stands e in
     let X =
     closing.body_is a.s.now a.flags.inline a.left R.n c.in-Body.at c.in-Body.size b.levels
     ∙ ap (λ (f : Flags). window_by a.s.now (a.left - 1) true f R.n c.in-Body.at (c.in-Body.at + c.in-Body.size)) (sym c.without_dependencies.ensures) in
-    let w = subst (WalkRead _ _ _ _ _ _ _ _ _ _) (ap count_answer c.in-Count.is) c.walk.ensures in
-    let g = bodies.body_read (deepest_body - a.left) a.first a.sheet.now a.table.now a.s.now (body_at verdict_on a.s.now a.flags.inline a.left) a.end a.flags (nest_at a.s.now (body_at verdict_on a.s.now a.flags.inline a.left) a.end a.flags a.first a.start) p.left_le_deepest_body.3 R.n l.own R.k M N S l.table a.left _ q.from c.in-Body.back c.in-Body.at c.in-Body.size b w.0.entries _ _ _ _ _ (X ∙ w.0.holds) w.0.count (w.1 refl) (take_at (take R.k M) _ R.k (length-take-le R.k M (d.fits))) (take_at (take R.k N) _ R.k (length-take-le R.k N (omega (arith, d.fits, i1, i2, p.marks_len.0)))) w.0.words w.0.owners in
+    let w = subst (WalkRead _ _ _ _ _ _ _ _ _ _) (ap count_answer c.in_ok-n-in-Body.was) c.walk.ensures in
+    let g = bodies.body_read (deepest_body - a.left) a.first a.sheet.now a.table.now a.s.now inner a.end a.flags whole p.left_le_deepest_body.3 R.n l.own R.k M N S l.table a.left _ q.from c.in-Body.back c.in-Body.at c.in-Body.size b w.0.entries _ _ _ _ _ (X ∙ w.0.holds) w.0.count (w.1 refl) (take_at (take R.k M) _ R.k (length-take-le R.k M (d.fits))) (take_at (take R.k N) _ R.k (length-take-le R.k N (omega (arith, d.fits, i1, i2, p.marks_len.0)))) w.0.words w.0.owners in
     (g.0, omega (arith, c.marks-in-Body-1.given, i1), omega (arith, c.numbers-in-Body-1.given, i2), omega (arith, c.words-1.given, l.invariant.3), omega (arith, c.sheet-in-Body-1.given, i4), omega (arith, c.table-1.given, l.invariant.5), omega (arith, c.marks-in-Body-1.given, d.fits), omega (arith, w.0.count, i7))
 
-pub shape_of-marks-in-Refused-walk : goal.shape_of-marks-in-Refused-walk
-shape_of-marks-in-Refused-walk t c =
-    let l = c.loop-on in
-    let d = c.next-stop.ensures in
-    omega (arith, c.marks-in-Body-1.given, d.marks_same, l.invariant.1)
-
-pub shape_of-numbers-in-Refused-walk : goal.shape_of-numbers-in-Refused-walk
-shape_of-numbers-in-Refused-walk t c =
-    let l = c.loop-on in
-    let d = c.next-stop.ensures in
-    omega (arith, c.numbers-in-Body-1.given, d.numbers_same, l.invariant.2)
-
-pub shape_of-words-in-Refused-walk : goal.shape_of-words-in-Refused-walk
-shape_of-words-in-Refused-walk t c =
-    let l = c.loop-on in
-    omega (arith, c.words-1.given, l.invariant.3)
-
-pub shape_of-sheet-in-Refused-walk : goal.shape_of-sheet-in-Refused-walk
-shape_of-sheet-in-Refused-walk t c =
-    let l = c.loop-on in
-    let d = c.next-stop.ensures in
-    omega (arith, c.sheet-in-Body-1.given, d.sheet_same, l.invariant.4)
-
-pub shape_of-table-in-Refused-walk : goal.shape_of-table-in-Refused-walk
-shape_of-table-in-Refused-walk t c =
-    let l = c.loop-on in
-    omega (arith, c.table-1.given, l.invariant.5)
-
-pub returns-in-Refused-walk : goal.returns-in-Refused-walk
-returns-in-Refused-walk t c =
+pub returns-in_err-n-in-Body : goal.returns-in_err-n-in-Body
+returns-in_err-n-in-Body t c =
     let l = c.loop-on in
     let a = c.args in
+    let inner = body_at verdict_on a.s.now a.flags.inline a.left in
+    let whole = nest_at a.s.now inner a.end a.flags a.first a.start in
     let p = c.requires in
     let x = c.next-stop in
     let R = x.result in
@@ -338,26 +239,26 @@ returns-in-Refused-walk t c =
     let N = x.new.numbers in
     let S = x.new.sheet in
     let d = x.ensures in
-    let q = standing.reached a.left a.first a.sheet.now a.table.now a.s.now (body_at verdict_on a.s.now a.flags.inline a.left) a.end a.flags (nest_at a.s.now (body_at verdict_on a.s.now a.flags.inline a.left) a.end a.flags a.first a.start) l.place l.n l.own l.k l.marks l.numbers l.sheet M N S l.table R l.invariant.0 d in
+    let q = standing.reached a.left a.first a.sheet.now a.table.now a.s.now inner a.end a.flags whole l.place l.n l.own l.k l.marks l.numbers l.sheet M N S l.table R l.invariant.0 d in
     let i1 = d.marks_same ∙ l.invariant.1 in
-    let i2 = d.numbers_same ∙ l.invariant.2 in
-    let i4 = d.sheet_same ∙ l.invariant.4 in
-    let i7 : l.own ≤ R.n = omega (arith, d.counted, l.invariant.7) in
     let e = sym q.met ∙ c.in-Body.is in
-    let b = bodies.on_body (deepest_body - a.left) a.first a.sheet.now a.table.now a.s.now (body_at verdict_on a.s.now a.flags.inline a.left) a.end a.flags (nest_at a.s.now (body_at verdict_on a.s.now a.flags.inline a.left) a.end a.flags a.first a.start) p.left_le_deepest_body.3 R.n l.own R.k M N S l.table a.left _ q.from c.in-Body.back c.in-Body.at c.in-Body.size q.stands e in
-    let z = bodies.body_starts (deepest_body - a.left) a.first a.sheet.now a.table.now a.s.now (body_at verdict_on a.s.now a.flags.inline a.left) a.end a.flags (nest_at a.s.now (body_at verdict_on a.s.now a.flags.inline a.left) a.end a.flags a.first a.start) p.left_le_deepest_body.3 R.n l.own R.k M N S l.table a.left _ q.from c.in-Body.back c.in-Body.at c.in-Body.size b in
+    let b = bodies.on_body (deepest_body - a.left) a.first a.sheet.now a.table.now a.s.now inner a.end a.flags whole p.left_le_deepest_body.3 R.n l.own R.k M N S l.table a.left _ q.from c.in-Body.back c.in-Body.at c.in-Body.size q.stands e in
     let X =
     closing.body_is a.s.now a.flags.inline a.left R.n c.in-Body.at c.in-Body.size b.levels
     ∙ ap (λ (f : Flags). window_by a.s.now (a.left - 1) true f R.n c.in-Body.at (c.in-Body.at + c.in-Body.size)) (sym c.without_dependencies.ensures) in
-    let w = subst (WalkRead _ _ _ _ _ _ _ _ _ _) (ap count_answer c.in-Refused-walk.is) c.walk.ensures in
-    let few = standing.stands_few (deepest_body - a.left) a.first a.sheet.now a.table.now a.s.now (body_at verdict_on a.s.now a.flags.inline a.left) a.end a.flags (nest_at a.s.now (body_at verdict_on a.s.now a.flags.inline a.left) a.end a.flags a.first a.start) q.from R.n l.own R.k M N S l.table q.stands in
-    ⊎_elim (λ y. inl (y.0, omega (arith, y.1, few, part_length M R.k, i1, d.fits)))
-    (λ y. inr (closing.refused_is (deepest_body - a.left) a.first a.inside a.start a.end _ _ _ (bodies.body_refused (deepest_body - a.left) a.first a.sheet.now a.table.now a.s.now (body_at verdict_on a.s.now a.flags.inline a.left) a.end a.flags (nest_at a.s.now (body_at verdict_on a.s.now a.flags.inline a.left) a.end a.flags a.first a.start) p.left_le_deepest_body.3 R.n l.own R.k M N S l.table a.left _ q.from c.in-Body.back c.in-Body.at c.in-Body.size b _ _ (X ∙ y)))) w
+    let w = subst (WalkRead _ _ _ _ _ _ _ _ _ _) (ap count_answer c.in_err-n-in-Body.was) c.walk.ensures in
+    let few = standing.stands_few (deepest_body - a.left) a.first a.sheet.now a.table.now a.s.now inner a.end a.flags whole q.from R.n l.own R.k M N S l.table q.stands in
+    let f = err_from_is_err_and c.from_residual.result c.from_residual.ensures.1 in
+    rw (f.1, f.2)
+    (⊎_elim (λ y. inl (y.0, omega (arith, y.1, few, part_length M R.k, i1, d.fits)))
+    (λ y. inr (closing.refused_is (deepest_body - a.left) a.first a.inside a.start a.end _ _ _ (bodies.body_refused (deepest_body - a.left) a.first a.sheet.now a.table.now a.s.now inner a.end a.flags whole p.left_le_deepest_body.3 R.n l.own R.k M N S l.table a.left _ q.from c.in-Body.back c.in-Body.at c.in-Body.size b _ _ (X ∙ y)))) w)
 
 pub put_words-requires : goal.put_words-requires
 put_words-requires t c =
     let l = c.loop-on in
     let a = c.args in
+    let inner = body_at verdict_on a.s.now a.flags.inline a.left in
+    let whole = nest_at a.s.now inner a.end a.flags a.first a.start in
     let p = c.requires in
     let x = c.next-stop in
     let R = x.result in
@@ -365,18 +266,16 @@ put_words-requires t c =
     let N = x.new.numbers in
     let S = x.new.sheet in
     let d = x.ensures in
-    let q = standing.reached a.left a.first a.sheet.now a.table.now a.s.now (body_at verdict_on a.s.now a.flags.inline a.left) a.end a.flags (nest_at a.s.now (body_at verdict_on a.s.now a.flags.inline a.left) a.end a.flags a.first a.start) l.place l.n l.own l.k l.marks l.numbers l.sheet M N S l.table R l.invariant.0 d in
-    let i1 = d.marks_same ∙ l.invariant.1 in
-    let i2 = d.numbers_same ∙ l.invariant.2 in
-    let i4 = d.sheet_same ∙ l.invariant.4 in
+    let q = standing.reached a.left a.first a.sheet.now a.table.now a.s.now inner a.end a.flags whole l.place l.n l.own l.k l.marks l.numbers l.sheet M N S l.table R l.invariant.0 d in
     let i7 : l.own ≤ R.n = omega (arith, d.counted, l.invariant.7) in
-    let e = sym q.met ∙ c.in-Ended.is in
-    (omega (arith, standing.stands_short (deepest_body - a.left) a.first a.sheet.now a.table.now a.s.now (body_at verdict_on a.s.now a.flags.inline a.left) a.end a.flags (nest_at a.s.now (body_at verdict_on a.s.now a.flags.inline a.left) a.end a.flags a.first a.start) q.from R.n l.own R.k M N S l.table q.stands, i7, p.left_le_deepest_body.3), p.left_le_deepest_body.0)
+    (omega (arith, standing.stands_short (deepest_body - a.left) a.first a.sheet.now a.table.now a.s.now inner a.end a.flags whole q.from R.n l.own R.k M N S l.table q.stands, i7, p.left_le_deepest_body.3), p.left_le_deepest_body.0)
 
 pub loop-on-smaller-in-Ended : goal.loop-on-smaller-in-Ended
 loop-on-smaller-in-Ended t c =
     let l = c.loop-on in
     let a = c.args in
+    let inner = body_at verdict_on a.s.now a.flags.inline a.left in
+    let whole = nest_at a.s.now inner a.end a.flags a.first a.start in
     let p = c.requires in
     let x = c.next-stop in
     let R = x.result in
@@ -384,19 +283,17 @@ loop-on-smaller-in-Ended t c =
     let N = x.new.numbers in
     let S = x.new.sheet in
     let d = x.ensures in
-    let q = standing.reached a.left a.first a.sheet.now a.table.now a.s.now (body_at verdict_on a.s.now a.flags.inline a.left) a.end a.flags (nest_at a.s.now (body_at verdict_on a.s.now a.flags.inline a.left) a.end a.flags a.first a.start) l.place l.n l.own l.k l.marks l.numbers l.sheet M N S l.table R l.invariant.0 d in
-    let i1 = d.marks_same ∙ l.invariant.1 in
-    let i2 = d.numbers_same ∙ l.invariant.2 in
-    let i4 = d.sheet_same ∙ l.invariant.4 in
-    let i7 : l.own ≤ R.n = omega (arith, d.counted, l.invariant.7) in
+    let q = standing.reached a.left a.first a.sheet.now a.table.now a.s.now inner a.end a.flags whole l.place l.n l.own l.k l.marks l.numbers l.sheet M N S l.table R l.invariant.0 d in
     let e = sym q.met ∙ c.in-Ended.is in
-    let g = moving.on_ended (deepest_body - a.left) a.first a.sheet.now a.table.now a.s.now (body_at verdict_on a.s.now a.flags.inline a.left) a.end a.flags (nest_at a.s.now (body_at verdict_on a.s.now a.flags.inline a.left) a.end a.flags a.first a.start) p.left_le_deepest_body.3 R.n l.own R.k M N S l.table a.left _ q.from c.in-Ended.after c.in-Ended.t _ q.stands e c.put_words.ensures in
+    let g = moving.on_ended (deepest_body - a.left) a.first a.sheet.now a.table.now a.s.now inner a.end a.flags whole p.left_le_deepest_body.3 R.n l.own R.k M N S l.table a.left _ q.from c.in-Ended.after c.in-Ended.t _ q.stands e c.put_words.ensures in
     standing.less_than _ _ _ g.1 q.less
 
 pub loop-on-preserved-in-Ended : goal.loop-on-preserved-in-Ended
 loop-on-preserved-in-Ended t c =
     let l = c.loop-on in
     let a = c.args in
+    let inner = body_at verdict_on a.s.now a.flags.inline a.left in
+    let whole = nest_at a.s.now inner a.end a.flags a.first a.start in
     let p = c.requires in
     let x = c.next-stop in
     let R = x.result in
@@ -404,19 +301,21 @@ loop-on-preserved-in-Ended t c =
     let N = x.new.numbers in
     let S = x.new.sheet in
     let d = x.ensures in
-    let q = standing.reached a.left a.first a.sheet.now a.table.now a.s.now (body_at verdict_on a.s.now a.flags.inline a.left) a.end a.flags (nest_at a.s.now (body_at verdict_on a.s.now a.flags.inline a.left) a.end a.flags a.first a.start) l.place l.n l.own l.k l.marks l.numbers l.sheet M N S l.table R l.invariant.0 d in
+    let q = standing.reached a.left a.first a.sheet.now a.table.now a.s.now inner a.end a.flags whole l.place l.n l.own l.k l.marks l.numbers l.sheet M N S l.table R l.invariant.0 d in
     let i1 = d.marks_same ∙ l.invariant.1 in
     let i2 = d.numbers_same ∙ l.invariant.2 in
     let i4 = d.sheet_same ∙ l.invariant.4 in
     let i7 : l.own ≤ R.n = omega (arith, d.counted, l.invariant.7) in
     let e = sym q.met ∙ c.in-Ended.is in
-    let g = moving.on_ended (deepest_body - a.left) a.first a.sheet.now a.table.now a.s.now (body_at verdict_on a.s.now a.flags.inline a.left) a.end a.flags (nest_at a.s.now (body_at verdict_on a.s.now a.flags.inline a.left) a.end a.flags a.first a.start) p.left_le_deepest_body.3 R.n l.own R.k M N S l.table a.left _ q.from c.in-Ended.after c.in-Ended.t _ q.stands e c.put_words.ensures in
+    let g = moving.on_ended (deepest_body - a.left) a.first a.sheet.now a.table.now a.s.now inner a.end a.flags whole p.left_le_deepest_body.3 R.n l.own R.k M N S l.table a.left _ q.from c.in-Ended.after c.in-Ended.t _ q.stands e c.put_words.ensures in
     (g.0, i1, i2, l.invariant.3, ap length c.put_words.ensures ∙ length-sets S (l.own * 2) (words_at (deepest_body - a.left) c.in-Ended.t) ∙ i4, l.invariant.5, d.fits, i7)
 
 pub loop-on-smaller : goal.loop-on-smaller
 loop-on-smaller t c =
     let l = c.loop-on in
     let a = c.args in
+    let inner = body_at verdict_on a.s.now a.flags.inline a.left in
+    let whole = nest_at a.s.now inner a.end a.flags a.first a.start in
     let p = c.requires in
     let x = c.next-stop in
     let R = x.result in
@@ -424,19 +323,17 @@ loop-on-smaller t c =
     let N = x.new.numbers in
     let S = x.new.sheet in
     let d = x.ensures in
-    let q = standing.reached a.left a.first a.sheet.now a.table.now a.s.now (body_at verdict_on a.s.now a.flags.inline a.left) a.end a.flags (nest_at a.s.now (body_at verdict_on a.s.now a.flags.inline a.left) a.end a.flags a.first a.start) l.place l.n l.own l.k l.marks l.numbers l.sheet M N S l.table R l.invariant.0 d in
-    let i1 = d.marks_same ∙ l.invariant.1 in
-    let i2 = d.numbers_same ∙ l.invariant.2 in
-    let i4 = d.sheet_same ∙ l.invariant.4 in
-    let i7 : l.own ≤ R.n = omega (arith, d.counted, l.invariant.7) in
+    let q = standing.reached a.left a.first a.sheet.now a.table.now a.s.now inner a.end a.flags whole l.place l.n l.own l.k l.marks l.numbers l.sheet M N S l.table R l.invariant.0 d in
     let e = sym q.met ∙ c.in-Moved.is in
-    let g = moving.on_moved (deepest_body - a.left) a.first a.sheet.now a.table.now a.s.now (body_at verdict_on a.s.now a.flags.inline a.left) a.end a.flags (nest_at a.s.now (body_at verdict_on a.s.now a.flags.inline a.left) a.end a.flags a.first a.start) p.left_le_deepest_body.3 R.n l.own R.k M N S l.table a.left _ q.from c.in-Moved.to q.stands e in
+    let g = moving.on_moved (deepest_body - a.left) a.first a.sheet.now a.table.now a.s.now inner a.end a.flags whole p.left_le_deepest_body.3 R.n l.own R.k M N S l.table a.left _ q.from c.in-Moved.to q.stands e in
     standing.less_than _ _ _ g.1 q.less
 
 pub loop-on-preserved : goal.loop-on-preserved
 loop-on-preserved t c =
     let l = c.loop-on in
     let a = c.args in
+    let inner = body_at verdict_on a.s.now a.flags.inline a.left in
+    let whole = nest_at a.s.now inner a.end a.flags a.first a.start in
     let p = c.requires in
     let x = c.next-stop in
     let R = x.result in
@@ -444,19 +341,21 @@ loop-on-preserved t c =
     let N = x.new.numbers in
     let S = x.new.sheet in
     let d = x.ensures in
-    let q = standing.reached a.left a.first a.sheet.now a.table.now a.s.now (body_at verdict_on a.s.now a.flags.inline a.left) a.end a.flags (nest_at a.s.now (body_at verdict_on a.s.now a.flags.inline a.left) a.end a.flags a.first a.start) l.place l.n l.own l.k l.marks l.numbers l.sheet M N S l.table R l.invariant.0 d in
+    let q = standing.reached a.left a.first a.sheet.now a.table.now a.s.now inner a.end a.flags whole l.place l.n l.own l.k l.marks l.numbers l.sheet M N S l.table R l.invariant.0 d in
     let i1 = d.marks_same ∙ l.invariant.1 in
     let i2 = d.numbers_same ∙ l.invariant.2 in
     let i4 = d.sheet_same ∙ l.invariant.4 in
     let i7 : l.own ≤ R.n = omega (arith, d.counted, l.invariant.7) in
     let e = sym q.met ∙ c.in-Moved.is in
-    let g = moving.on_moved (deepest_body - a.left) a.first a.sheet.now a.table.now a.s.now (body_at verdict_on a.s.now a.flags.inline a.left) a.end a.flags (nest_at a.s.now (body_at verdict_on a.s.now a.flags.inline a.left) a.end a.flags a.first a.start) p.left_le_deepest_body.3 R.n l.own R.k M N S l.table a.left _ q.from c.in-Moved.to q.stands e in
+    let g = moving.on_moved (deepest_body - a.left) a.first a.sheet.now a.table.now a.s.now inner a.end a.flags whole p.left_le_deepest_body.3 R.n l.own R.k M N S l.table a.left _ q.from c.in-Moved.to q.stands e in
     (g.0, i1, i2, l.invariant.3, i4, l.invariant.5, d.fits, i7)
 
 pub closed-requires : goal.closed-requires
 closed-requires t c =
     let l = c.loop-on in
     let a = c.args in
+    let inner = body_at verdict_on a.s.now a.flags.inline a.left in
+    let whole = nest_at a.s.now inner a.end a.flags a.first a.start in
     let p = c.requires in
     let x = c.next-stop in
     let R = x.result in
@@ -464,48 +363,20 @@ closed-requires t c =
     let N = x.new.numbers in
     let S = x.new.sheet in
     let d = x.ensures in
-    let q = standing.reached a.left a.first a.sheet.now a.table.now a.s.now (body_at verdict_on a.s.now a.flags.inline a.left) a.end a.flags (nest_at a.s.now (body_at verdict_on a.s.now a.flags.inline a.left) a.end a.flags a.first a.start) l.place l.n l.own l.k l.marks l.numbers l.sheet M N S l.table R l.invariant.0 d in
+    let q = standing.reached a.left a.first a.sheet.now a.table.now a.s.now inner a.end a.flags whole l.place l.n l.own l.k l.marks l.numbers l.sheet M N S l.table R l.invariant.0 d in
     let i1 = d.marks_same ∙ l.invariant.1 in
     let i2 = d.numbers_same ∙ l.invariant.2 in
-    let i4 = d.sheet_same ∙ l.invariant.4 in
-    let i7 : l.own ≤ R.n = omega (arith, d.counted, l.invariant.7) in
     let e = sym q.met ∙ c.in-Over.is in
-    let o = ending.on_over (deepest_body - a.left) a.first a.sheet.now a.table.now a.s.now (body_at verdict_on a.s.now a.flags.inline a.left) a.end a.flags (nest_at a.s.now (body_at verdict_on a.s.now a.flags.inline a.left) a.end a.flags a.first a.start) p.left_le_deepest_body.3 R.n l.own R.k M N S l.table a.left _ q.from c.in-Over.last q.stands e in
-    let few = standing.stands_few (deepest_body - a.left) a.first a.sheet.now a.table.now a.s.now (body_at verdict_on a.s.now a.flags.inline a.left) a.end a.flags (nest_at a.s.now (body_at verdict_on a.s.now a.flags.inline a.left) a.end a.flags a.first a.start) q.from R.n l.own R.k M N S l.table q.stands in
+    let o = ending.on_over (deepest_body - a.left) a.first a.sheet.now a.table.now a.s.now inner a.end a.flags whole p.left_le_deepest_body.3 R.n l.own R.k M N S l.table a.left _ q.from c.in-Over.last q.stands e in
+    let few = standing.stands_few (deepest_body - a.left) a.first a.sheet.now a.table.now a.s.now inner a.end a.flags whole q.from R.n l.own R.k M N S l.table q.stands in
     record { k_in_bounds = (d.fits, omega (arith, d.fits, i1, i2, p.marks_len.0), omega (arith, few, o.short, p.left_le_deepest_body.3), omega (arith, d.fits, i1, l.invariant.3, p.marks_len.1)); numbered = closing.kept_numbered (deepest_body - a.left) a.first a.sheet.now a.table.now o.done R.n R.k M N S l.table o.kept (omega (arith, o.short, p.left_le_deepest_body.3)) }
-
-pub shape_of-marks-in-Over : goal.shape_of-marks-in-Over
-shape_of-marks-in-Over t c =
-    let l = c.loop-on in
-    let d = c.next-stop.ensures in
-    d.marks_same ∙ l.invariant.1
-
-pub shape_of-numbers-in-Over : goal.shape_of-numbers-in-Over
-shape_of-numbers-in-Over t c =
-    let l = c.loop-on in
-    let d = c.next-stop.ensures in
-    d.numbers_same ∙ l.invariant.2
-
-pub shape_of-words-in-Over : goal.shape_of-words-in-Over
-shape_of-words-in-Over t c =
-    let l = c.loop-on in
-    omega (arith, c.words-in-Over-1.given, l.invariant.3)
-
-pub shape_of-sheet-in-Over : goal.shape_of-sheet-in-Over
-shape_of-sheet-in-Over t c =
-    let l = c.loop-on in
-    let d = c.next-stop.ensures in
-    d.sheet_same ∙ l.invariant.4
-
-pub shape_of-table-in-Over : goal.shape_of-table-in-Over
-shape_of-table-in-Over t c =
-    let l = c.loop-on in
-    omega (arith, c.table-in-Over-1.given, l.invariant.5)
 
 pub returns-in-Over : goal.returns-in-Over
 returns-in-Over t c =
     let l = c.loop-on in
     let a = c.args in
+    let inner = body_at verdict_on a.s.now a.flags.inline a.left in
+    let whole = nest_at a.s.now inner a.end a.flags a.first a.start in
     let p = c.requires in
     let x = c.next-stop in
     let R = x.result in
@@ -513,49 +384,18 @@ returns-in-Over t c =
     let N = x.new.numbers in
     let S = x.new.sheet in
     let d = x.ensures in
-    let q = standing.reached a.left a.first a.sheet.now a.table.now a.s.now (body_at verdict_on a.s.now a.flags.inline a.left) a.end a.flags (nest_at a.s.now (body_at verdict_on a.s.now a.flags.inline a.left) a.end a.flags a.first a.start) l.place l.n l.own l.k l.marks l.numbers l.sheet M N S l.table R l.invariant.0 d in
-    let i1 = d.marks_same ∙ l.invariant.1 in
-    let i2 = d.numbers_same ∙ l.invariant.2 in
-    let i4 = d.sheet_same ∙ l.invariant.4 in
-    let i7 : l.own ≤ R.n = omega (arith, d.counted, l.invariant.7) in
+    let q = standing.reached a.left a.first a.sheet.now a.table.now a.s.now inner a.end a.flags whole l.place l.n l.own l.k l.marks l.numbers l.sheet M N S l.table R l.invariant.0 d in
     let e = sym q.met ∙ c.in-Over.is in
-    let o = ending.on_over (deepest_body - a.left) a.first a.sheet.now a.table.now a.s.now (body_at verdict_on a.s.now a.flags.inline a.left) a.end a.flags (nest_at a.s.now (body_at verdict_on a.s.now a.flags.inline a.left) a.end a.flags a.first a.start) p.left_le_deepest_body.3 R.n l.own R.k M N S l.table a.left _ q.from c.in-Over.last q.stands e in
-    let few = standing.stands_few (deepest_body - a.left) a.first a.sheet.now a.table.now a.s.now (body_at verdict_on a.s.now a.flags.inline a.left) a.end a.flags (nest_at a.s.now (body_at verdict_on a.s.now a.flags.inline a.left) a.end a.flags a.first a.start) q.from R.n l.own R.k M N S l.table q.stands in
+    let o = ending.on_over (deepest_body - a.left) a.first a.sheet.now a.table.now a.s.now inner a.end a.flags whole p.left_le_deepest_body.3 R.n l.own R.k M N S l.table a.left _ q.from c.in-Over.last q.stands e in
     let D = c.closed.ensures in
     closing.closes a.s.now (length a.marks.now) (deepest_body - a.left) a.first a.inside a.start a.end (last_of c.in-Over.last) _ o.done o.read R.n R.k o.low o.short M N a.sheet.now S a.table.now l.table _ o.kept _ D.result_value D.verdict_laid
-
-pub shape_of-marks-in-Refused : goal.shape_of-marks-in-Refused
-shape_of-marks-in-Refused t c =
-    let l = c.loop-on in
-    let d = c.next-stop.ensures in
-    d.marks_same ∙ l.invariant.1
-
-pub shape_of-numbers-in-Refused : goal.shape_of-numbers-in-Refused
-shape_of-numbers-in-Refused t c =
-    let l = c.loop-on in
-    let d = c.next-stop.ensures in
-    d.numbers_same ∙ l.invariant.2
-
-pub shape_of-words-in-Refused : goal.shape_of-words-in-Refused
-shape_of-words-in-Refused t c =
-    let l = c.loop-on in
-    l.invariant.3
-
-pub shape_of-sheet-in-Refused : goal.shape_of-sheet-in-Refused
-shape_of-sheet-in-Refused t c =
-    let l = c.loop-on in
-    let d = c.next-stop.ensures in
-    d.sheet_same ∙ l.invariant.4
-
-pub shape_of-table-in-Refused : goal.shape_of-table-in-Refused
-shape_of-table-in-Refused t c =
-    let l = c.loop-on in
-    l.invariant.5
 
 pub returns-in-Refused : goal.returns-in-Refused
 returns-in-Refused t c =
     let l = c.loop-on in
     let a = c.args in
+    let inner = body_at verdict_on a.s.now a.flags.inline a.left in
+    let whole = nest_at a.s.now inner a.end a.flags a.first a.start in
     let p = c.requires in
     let x = c.next-stop in
     let R = x.result in
@@ -563,13 +403,10 @@ returns-in-Refused t c =
     let N = x.new.numbers in
     let S = x.new.sheet in
     let d = x.ensures in
-    let q = standing.reached a.left a.first a.sheet.now a.table.now a.s.now (body_at verdict_on a.s.now a.flags.inline a.left) a.end a.flags (nest_at a.s.now (body_at verdict_on a.s.now a.flags.inline a.left) a.end a.flags a.first a.start) l.place l.n l.own l.k l.marks l.numbers l.sheet M N S l.table R l.invariant.0 d in
+    let q = standing.reached a.left a.first a.sheet.now a.table.now a.s.now inner a.end a.flags whole l.place l.n l.own l.k l.marks l.numbers l.sheet M N S l.table R l.invariant.0 d in
     let i1 = d.marks_same ∙ l.invariant.1 in
-    let i2 = d.numbers_same ∙ l.invariant.2 in
-    let i4 = d.sheet_same ∙ l.invariant.4 in
-    let i7 : l.own ≤ R.n = omega (arith, d.counted, l.invariant.7) in
     let e = sym q.met ∙ c.in-Refused.is in
-    let few = standing.stands_few (deepest_body - a.left) a.first a.sheet.now a.table.now a.s.now (body_at verdict_on a.s.now a.flags.inline a.left) a.end a.flags (nest_at a.s.now (body_at verdict_on a.s.now a.flags.inline a.left) a.end a.flags a.first a.start) q.from R.n l.own R.k M N S l.table q.stands in
+    let few = standing.stands_few (deepest_body - a.left) a.first a.sheet.now a.table.now a.s.now inner a.end a.flags whole q.from R.n l.own R.k M N S l.table q.stands in
     ⊎_elim (λ y. inl (y.0, omega (arith, few, y.2, ltb-false R.k (length M) y.1, i1)))
     (λ y. inr (closing.refused_is (deepest_body - a.left) a.first a.inside a.start a.end _ _ _ y))
-    (ending.on_refused (deepest_body - a.left) a.first a.sheet.now a.table.now a.s.now (body_at verdict_on a.s.now a.flags.inline a.left) a.end a.flags (nest_at a.s.now (body_at verdict_on a.s.now a.flags.inline a.left) a.end a.flags a.first a.start) p.left_le_deepest_body.3 R.n l.own R.k M N S l.table a.left _ q.from c.in-Refused.r q.stands (closing.body_deep a.s.now a.flags.inline a.left) e)
+    (ending.on_refused (deepest_body - a.left) a.first a.sheet.now a.table.now a.s.now inner a.end a.flags whole p.left_le_deepest_body.3 R.n l.own R.k M N S l.table a.left _ q.from c.in-Refused.r q.stands (closing.body_deep a.s.now a.flags.inline a.left) e)

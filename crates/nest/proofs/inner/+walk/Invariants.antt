@@ -1,6 +1,6 @@
 -- What the loop of `walk` keeps, and what falls in it and from call to call. Assumes nothing.
 use mathlib.Core.Path.{◌≡◌}
-use Prim.Native.Nat.{ℕ, ◌-◌, ◌≤◌}
+use Prim.Native.Nat.{◌-◌, ◌≤◌}
 use lib.ListN.{length}
 use Rattle.body.specs.Reader.{verdict_on}
 use Rattle.nest.specs.Nested.{deepest_body, body_at, nest_at}

@@ -1,14 +1,10 @@
 -- `lay` meets its contract: the owners of the first i tokens are set. Assumes nothing.
-use mathlib.Core.Path.{◌≡◌, refl, sym, ◌∙◌}
+use mathlib.Core.Path.{◌≡◌}
 use mathlib.Core.List.{map}
-use Prim.Native.Nat.{◌+◌, ◌-◌, ◌≤◌}
-use native.Mathlib.Omega.{arith}
-use lib.ListN.{length, take, drop, length-set}
-use lib.Seq.{length-take-le}
+use Prim.Native.Nat.{◌-◌, ◌≤◌}
+use lib.ListN.{length, take, drop}
 use Rattle.nest.specs.Nested.{renumbered}
 use Rattle.nest.specs.Pieces.{numbers_to, set_at}
-use Rattle.nest.proofs.Numbers.{set_next, set_none}
-use borrow.Author.Rules.{rules}
 use Rattle.nest.proofs.inner.lay.Given as goal
 
 abbrev pub invariant-loop-i : goal.invariant-loop-i

@@ -1,9 +1,7 @@
 -- `next` meets its contract: by where the walk stands. Assumes nothing.
-use mathlib.Core.Path.{refl, sym, subst}
-use native.Mathlib.Omega.{arith}
+use mathlib.Core.Path.{sym, subst}
 use Rattle.nest.specs.Going.{MetAt, Near}
 use Rattle.nest.specs.declared.inner.Place.{Place}
-use borrow.Author.Rules.{rules}
 use Rattle.nest.proofs.inner.next.Goals as goal
 
 pub run-requires : goal.run-requires
@@ -24,18 +22,4 @@ returns-in-Between c =
       marks_same = m.marks_same;
       numbers_same = m.numbers_same;
       sheet_same = m.sheet_same;
-    }
-
-pub returns-in-Inside : goal.returns-in-Inside
-returns-in-Inside c =
-    let a = c.args in
-    record {
-      at =
-          subst (λ (z : Place). MetAt a.s.now a.end a.flags a.left z a.n a.k a.marks.now a.numbers.now a.sheet.now a.marks.now a.numbers.now a.sheet.now (record { event = c.among.result; n = a.n; k = a.k })) (sym c.in-Inside.is)
-          (record { passed = c.among.ensures; n_same = refl; k_same = refl; marks_same = refl; numbers_same = refl; sheet_same = refl });
-      counted = omega arith;
-      fits = c.requires.marks_len.1;
-      marks_same = refl;
-      numbers_same = refl;
-      sheet_same = refl;
     }

@@ -1,6 +1,7 @@
 -- `values` meets its contract: the values that are left, put behind those that are there, are the whole. Assumes nothing.
+use Rattle.std.specs.Prelude.{Ok}
 use borrow.Author.Rules.{rules}
-use mathlib.Core.Path.{◌≡◌}
+use mathlib.Core.Path.{◌≡◌, ap, ◌∙◌}
 use native.Mathlib.Omega.{arith}
 use lib.ListN.{length}
 use Rattle.print.proofs.Putting.{Left, nothing_yet}
@@ -15,22 +16,22 @@ loop-x-init c = (omega arith, nothing_yet)
 pub loop-x-smaller : goal.loop-x-smaller
 loop-x-smaller c =
     let l = c.loop-x in
-    let h = left_falls c.args.s.now l.v _ c.next.ensures _ _ _ c.in-Value.is in
+    let h = left_falls c.args.s.now l.v _ c.next.ensures _ _ _ (c.in-Ok-Some.is ∙ ap Ok c.in-Ok-Some.field-0-is) in
     omega (arith, h.0, h.1)
 
 pub loop-x-preserved : goal.loop-x-preserved
 loop-x-preserved c =
     let l = c.loop-x in (
       omega arith,
-      left_next l.invariant.1 (values_next c.args.s.now l.v _ c.next.ensures _ _ _ c.in-Value.is) c.sized-filled.ensures,
+      left_next l.invariant.1 (values_next c.args.s.now l.v _ c.next.ensures _ _ _ (c.in-Ok-Some.is ∙ ap Ok c.in-Ok-Some.field-0-is)) c.sized-filled.ensures,
     )
 
-pub returns-in-Done : goal.returns-in-Done
-returns-in-Done c =
+pub returns-in-Ok-None : goal.returns-in-Ok-None
+returns-in-Ok-None c =
     let l = c.loop-x in
-    left_none l.invariant.1 (values_done c.args.s.now l.v _ c.next.ensures c.in-Done.is)
+    left_none l.invariant.1 (values_done c.args.s.now l.v _ c.next.ensures (c.in-Ok-None.is ∙ ap Ok c.in-Ok-None.field-0-is))
 
-pub returns-in-Refused : goal.returns-in-Refused
-returns-in-Refused c =
+pub returns-in-Err : goal.returns-in-Err
+returns-in-Err c =
     let l = c.loop-x in
-    left_none l.invariant.1 (values_refused c.args.s.now l.v _ c.next.ensures _ c.in-Refused.is)
+    left_none l.invariant.1 (values_refused c.args.s.now l.v _ c.next.ensures _ c.in-Err.is)

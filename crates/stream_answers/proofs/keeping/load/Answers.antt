@@ -13,9 +13,6 @@ use Rattle.stream_answers.proofs.keeping.load.Goals as goal
 pub loop-i-init : goal.loop-i-init
 loop-i-init c = (omega arith, c.requires, refl, refl)
 
-pub loop-i-smaller : goal.loop-i-smaller
-loop-i-smaller c = omega (arith, c.loop-i-test.true, c.loop-i.invariant.3)
-
 pub loop-i-preserved : goal.loop-i-preserved
 loop-i-preserved c =
     let a = c.args in
@@ -24,7 +21,7 @@ loop-i-preserved c =
     let W = stored_words n a.bytes.now 8 in
     let z : length W ≡ n = stored_length n a.bytes.now 8 in
     let room : length W ≤ n = omega (arith, z) in
-    let h : l.i + 1 ≤ n = omega (arith, c.loop-i-test.true, l.invariant.3) in
+    let h : l.i + 1 ≤ n = omega (arith, l.invariant.3) in
     let k : l.i + 1 ≤ length W = omega (arith, h, z) in
     let e =
     ap (set l.words l.i) (c.u64_at.ensures ∙ sym (stored_at n a.bytes.now 8 l.i (omega (arith, h))))
@@ -42,4 +39,4 @@ returns c =
     let W = stored_words n a.bytes.now 8 in
     let z : length W ≡ n = stored_length n a.bytes.now 8 in
     let room : length W ≤ n = omega (arith, z) in
-    laid_whole W a.words.now room l.i l.words (omega (arith, z, l.invariant.0, c.loop-i-test.false, l.invariant.3)) l.invariant.2 ∙ laid_all W a.words.now z
+    laid_whole W a.words.now room l.i l.words (omega (arith, z, l.invariant.0, l.invariant.3)) l.invariant.2 ∙ laid_all W a.words.now z

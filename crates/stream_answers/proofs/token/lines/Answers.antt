@@ -1,4 +1,5 @@
 -- `lines` meets its contract: what is still to come of the walk's text, put behind what is there, is the whole. Assumes nothing.
+use Rattle.std.specs.Prelude.{Ok, Option}
 use borrow.Author.Rules.{rules}
 use mathlib.Core.Path.{◌≡◌, sym, ap, subst, ◌∙◌}
 use mathlib.Core.List.{◌++◌}
@@ -6,6 +7,7 @@ use Prim.Native.Nat.{◌-◌, ◌≤◌}
 use native.Mathlib.Omega.{arith}
 use lib.ListN.{length}
 use Rattle.tokens.specs.Walk.{step_answer, walk_at, counted_of}
+use Rattle.tokens.specs.declared.Token.{Token}
 use Rattle.tokens.proofs.Reach.{Grows}
 use Rattle.tokens.proofs.Steps.{step_grows}
 use Rattle.sheet.specs.Sheet.{read_at}
@@ -24,7 +26,7 @@ pub line-filled-requires : goal.line-filled-requires
 line-filled-requires c =
     let l = c.loop-t in
     let a = c.args in
-    let e = sym c.step.ensures ∙ ap step_answer c.in-Token.is in
+    let e = sym c.step.ensures ∙ ap step_answer (c.in-Ok-Some-default.is ∙ ap (λ (x : Option Token). Ok (x, c.in-Ok-Some-default.next)) c.in-Ok-Some-default.field-0-0-is) in
     let h = subst (Grows l.here (length a.s.now)) e (step_grows a.s.now a.end a.flags l.here) in
     omega (arith, h.2, h.3)
 
@@ -32,7 +34,7 @@ pub overflow_add-n : goal.overflow_add-n
 overflow_add-n c =
     let l = c.loop-t in
     let a = c.args in
-    let e = sym c.step.ensures ∙ ap step_answer c.in-Token.is in
+    let e = sym c.step.ensures ∙ ap step_answer (c.in-Ok-Some-default.is ∙ ap (λ (x : Option Token). Ok (x, c.in-Ok-Some-default.next)) c.in-Ok-Some-default.field-0-0-is) in
     let h = subst (Grows l.here (length a.s.now)) e (step_grows a.s.now a.end a.flags l.here) in
     omega (arith, l.invariant.1, h.0, h.1, h.2)
 
@@ -40,7 +42,7 @@ pub loop-t-smaller : goal.loop-t-smaller
 loop-t-smaller c =
     let l = c.loop-t in
     let a = c.args in
-    let e = sym c.step.ensures ∙ ap step_answer c.in-Token.is in
+    let e = sym c.step.ensures ∙ ap step_answer (c.in-Ok-Some-default.is ∙ ap (λ (x : Option Token). Ok (x, c.in-Ok-Some-default.next)) c.in-Ok-Some-default.field-0-0-is) in
     let h = subst (Grows l.here (length a.s.now)) e (step_grows a.s.now a.end a.flags l.here) in
     omega (arith, h.0, h.1, h.2)
 
@@ -48,23 +50,23 @@ pub loop-t-preserved : goal.loop-t-preserved
 loop-t-preserved c =
     let l = c.loop-t in
     let a = c.args in
-    let e = sym c.step.ensures ∙ ap step_answer c.in-Token.is in
+    let e = sym c.step.ensures ∙ ap step_answer (c.in-Ok-Some-default.is ∙ ap (λ (x : Option Token). Ok (x, c.in-Ok-Some-default.next)) c.in-Ok-Some-default.field-0-0-is) in
     let h = subst (Grows l.here (length a.s.now)) e (step_grows a.s.now a.end a.flags l.here) in (
       omega arith,
       omega (arith, l.invariant.1, h.0, h.1),
       left_next l.invariant.2 (rest_next a.s.now a.end a.flags l.here l.n _ _ e) c.line-filled.ensures,
     )
 
-pub returns-in-End : goal.returns-in-End
-returns-in-End c =
+pub returns-in-Ok-None-default : goal.returns-in-Ok-None-default
+returns-in-Ok-None-default c =
     let l = c.loop-t in
     let a = c.args in
-    let e = sym c.step.ensures ∙ ap step_answer c.in-End.is in
+    let e = sym c.step.ensures ∙ ap step_answer (c.in-Ok-None-default.is ∙ ap (λ (x : Option Token). Ok (x, c.in-Ok-None-default.field-0-1)) c.in-Ok-None-default.field-0-0-is) in
     left_all l.invariant.2 (rest_over a.s.now a.end a.flags l.here l.n _ e) c.line.ensures
 
-pub returns-in-Refused : goal.returns-in-Refused
-returns-in-Refused c =
+pub returns-in-Err : goal.returns-in-Err
+returns-in-Err c =
     let l = c.loop-t in
     let a = c.args in
-    let e = sym c.step.ensures ∙ ap step_answer c.in-Refused.is in
+    let e = sym c.step.ensures ∙ ap step_answer c.in-Err.is in
     left_all l.invariant.2 (rest_refused a.s.now a.end a.flags l.here l.n _ _ e) c.refused.ensures

@@ -1,30 +1,31 @@
 -- `contents` meets its contract: each byte by its arm. Assumes nothing.
 use mathlib.Core.Path.{◌≡◌}
+use Rattle.cursor.specs.Answers.{read_answer}
 use mathlib.Core.List.{[], ◌∷◌}
 use mathlib.Core.Logic.{inl, inr}
 use Rattle.value.proofs.Codes.{in_arm}
 use borrow.Author.Tests.{ne_eqb}
 use borrow.Author.Rules.{rules}
-use Rattle.tokens.specs.Pieces.{gist_answer, table_from05}
+use Rattle.tokens.specs.Pieces.{table_from05}
 use Rattle.tokens.proofs.plain.contents.Goals as goal
 
 pub returns-in-5 : goal.returns-in-5
 unfolding table_from05
 returns-in-5 c =
     let a = c.args in
-    in_arm (λ i. gist_answer c.held_value.result ≡ table_from05 a.s.now i a.c.at) (0x05 ∷ 0x45 ∷ []) (c.held_value.ensures, (c.held_value.ensures, tt)) a.b c.in-5.is
+    in_arm (λ i. read_answer c.held_value.result ≡ table_from05 a.s.now i a.c.at) (0x05 ∷ 0x45 ∷ []) (c.held_value.ensures, (c.held_value.ensures, tt)) a.b c.in-5.is
 
 pub returns-in-7 : goal.returns-in-7
 unfolding table_from05
 returns-in-7 c =
     let a = c.args in
-    in_arm (λ i. gist_answer c.text.result ≡ table_from05 a.s.now i a.c.at) (0x07 ∷ 0x47 ∷ []) (c.text.ensures, (c.text.ensures, tt)) a.b c.in-7.is
+    in_arm (λ i. read_answer c.text.result ≡ table_from05 a.s.now i a.c.at) (0x07 ∷ 0x47 ∷ []) (c.text.ensures, (c.text.ensures, tt)) a.b c.in-7.is
 
 pub returns-in-8 : goal.returns-in-8
 unfolding table_from05
 returns-in-8 c =
     let a = c.args in
-    in_arm (λ i. gist_answer c.char_ref.result ≡ table_from05 a.s.now i a.c.at) (0x08 ∷ 0x48 ∷ []) (c.char_ref.ensures, (c.char_ref.ensures, tt)) a.b c.in-8.is
+    in_arm (λ i. read_answer c.char_ref.result ≡ table_from05 a.s.now i a.c.at) (0x08 ∷ 0x48 ∷ []) (c.char_ref.ensures, (c.char_ref.ensures, tt)) a.b c.in-8.is
 
 pub returns-in-11 : goal.returns-in-11
 unfolding table_from05

@@ -1,4 +1,5 @@
 -- `front_of` meets its contract: each byte by its arm. Assumes nothing.
+use Rattle.std.specs.Prelude.{Ok, Some}
 use mathlib.Core.Path.{◌≡◌, refl}
 use mathlib.Core.Bool.{false}
 use mathlib.Core.List.{[], ◌∷◌}
@@ -9,7 +10,6 @@ use borrow.Author.Rules.{rules}
 use Rattle.tokens.specs.Token.{attribute_kind, entity_ref_kind, pi_target_kind}
 use Rattle.tokens.specs.Table.{gist_at}
 use Rattle.tokens.specs.Pieces.{lead, front_to, nameless_at, table_from02, table_from05, table_from0_d}
-use Rattle.tokens.specs.declared.plain.Front.TheVariants as F
 use Rattle.tokens.proofs.plain.front_of.Goals as goal
 
 pub returns-in-1 : goal.returns-in-1
@@ -31,21 +31,21 @@ unfolding gist_at
 returns-in-6 c =
     let a = c.args in
     let s = a.s.now in
-    simp c.lead_of.ensures (in_arm (λ i. front_to s a.flags.inline (nameless_at s i a.c.at) (F.Named (lead attribute_kind 0 false false) a.c) ≡ gist_at s a.flags i a.c.at) (0x06 ∷ 0x46 ∷ []) (refl, (refl, tt)) a.b c.in-6.is)
+    simp c.lead_of.ensures (in_arm (λ i. front_to s a.flags.inline (nameless_at s i a.c.at) (Ok (Some ((lead attribute_kind 0 false false), a.c))) ≡ gist_at s a.flags i a.c.at) (0x06 ∷ 0x46 ∷ []) (refl, (refl, tt)) a.b c.in-6.is)
 
 pub returns-in-9 : goal.returns-in-9
 unfolding gist_at
 returns-in-9 c =
     let a = c.args in
     let s = a.s.now in
-    simp c.lead_of-in-9.ensures (in_arm (λ i. front_to s a.flags.inline (nameless_at s i a.c.at) (F.Named (lead entity_ref_kind 0 false false) a.c) ≡ gist_at s a.flags i a.c.at) (0x09 ∷ 0x49 ∷ []) (refl, (refl, tt)) a.b c.in-9.is)
+    simp c.lead_of-in-9.ensures (in_arm (λ i. front_to s a.flags.inline (nameless_at s i a.c.at) (Ok (Some ((lead entity_ref_kind 0 false false), a.c))) ≡ gist_at s a.flags i a.c.at) (0x09 ∷ 0x49 ∷ []) (refl, (refl, tt)) a.b c.in-9.is)
 
 pub returns-in-10 : goal.returns-in-10
 unfolding gist_at
 returns-in-10 c =
     let a = c.args in
     let s = a.s.now in
-    simp c.lead_of-in-10.ensures (in_arm (λ i. front_to s a.flags.inline (nameless_at s i a.c.at) (F.Named (lead pi_target_kind 0 false false) a.c) ≡ gist_at s a.flags i a.c.at) (0x0A ∷ []) (refl, tt) a.b c.in-10.is)
+    simp c.lead_of-in-10.ensures (in_arm (λ i. front_to s a.flags.inline (nameless_at s i a.c.at) (Ok (Some ((lead pi_target_kind 0 false false), a.c))) ≡ gist_at s a.flags i a.c.at) (0x0A ∷ []) (refl, tt) a.b c.in-10.is)
 
 pub returns-in_default : goal.returns-in_default
 unfolding gist_at nameless_at table_from02 table_from05 table_from0_d

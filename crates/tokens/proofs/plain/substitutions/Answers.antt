@@ -17,4 +17,4 @@ unfolding table_from0_d
 returns-in_default c =
     let k = c.args.b in
     let r = c.in_default.in_default-own.rest in
-    simp (ne_eqb k 0x0D r.0.1, ne_eqb k 0x0E r.1)
+    simp (ne_eqb k 0x0D r.0.1, ne_eqb k 0x0E r.1, c.refuse.ensures)

@@ -1,30 +1,28 @@
--- `size_t` meets its contract: 4 bytes, 8, or a refusal. Assumes nothing.
-use borrow.Author.Tests.{ne_eqb}
+-- `size_t` meets its contract: 4 or 8 bytes, or a refusal. Assumes nothing.
+use mathlib.Core.Path.{◌≡◌}
+use mathlib.Core.Bool.{true, ◌||◌}
+use mathlib.Core.Logic.{◌⊎◌, inl, inr}
+use Prim.Native.Nat.{ℕ}
 use native.Mathlib.Omega.{arith}
-use native.Mathlib.Nat.{add-zero}
+use borrow.Author.Tests.{eq-eqb, ne_eqb}
+use lib.Dec.{eqb}
 use lib.ListN.{length}
+use borrow.Author.Rules.{rules}
 use Rattle.cursor.specs.Answer.{◌then◌}
 use Rattle.cursor.specs.Reads.{take_at}
 use Rattle.value.specs.Value.{as_number}
+use Rattle.value.specs.declared.Content.TheVariants.{Number}
 use Rattle.value.proofs.Inside.{as_number_lem, takes, movable}
-use borrow.Author.Rules.{rules}
 use Rattle.value.proofs.contents.size_t.Goals as goal
 
-pub number-requires : goal.number-requires
-number-requires c =
-    let a = c.args in
-    rw c.take_bytes.ensures (movable a.start (length a.rest.now) (take_at a.rest.now 0 4 then as_number) (as_number_lem (length a.rest.now) (take_at a.rest.now 0 4) (takes a.rest.now 4)) (omega arith))
+one_of : (n : ℕ) → (n ≡ 4) ⊎ ((n ≡ 4 → ⊥) × (n ≡ 8)) → (eqb n 4 || eqb n 8) ≡ true
+one_of n (inl e) = simp (eq-eqb _ _ e)
+one_of n (inr e) = simp (ne_eqb _ _ e.0, eq-eqb _ _ e.1)
 
-pub returns-then-size-eq4 : goal.returns-then-size-eq4
-returns-then-size-eq4 c = simp (c.number.ensures, c.take_bytes.ensures, c.if-size-eq4.true)
-
-pub number-requires-then-size-eq8 : goal.number-requires-then-size-eq8
-number-requires-then-size-eq8 c =
+pub moved-requires-clause-fits : goal.moved-requires-clause-fits
+moved-requires-clause-fits c =
     let a = c.args in
-    rw c.take_bytes-then-size-eq8.ensures (movable a.start (length a.rest.now) (take_at a.rest.now 0 8 then as_number) (as_number_lem (length a.rest.now) (take_at a.rest.now 0 8) (takes a.rest.now 8)) (omega arith))
+    (λ p. Number p, λ x r e. search rules, rw c.take_bytes.ensures (movable a.start (length a.rest.now) (take_at a.rest.now 0 a.size then as_number) (as_number_lem (length a.rest.now) (take_at a.rest.now 0 a.size) (takes a.rest.now a.size)) (omega arith)))
 
 pub returns-then-size-eq8 : goal.returns-then-size-eq8
-returns-then-size-eq8 c = simp (c.number-then-size-eq8.ensures, c.take_bytes-then-size-eq8.ensures, c.if-size-eq8.true)
-
-pub returns : goal.returns
-returns c = simp (ne_eqb _ _ c.if-size-eq4.false, ne_eqb _ _ c.if-size-eq8.false, c.refused.ensures, add-zero)
+returns-then-size-eq8 c = simp (c.moved.ensures Number (λ x r e. search rules), c.take_bytes.ensures, one_of c.args.size c.if-size-eq8.either)

@@ -7,11 +7,11 @@ use Rattle.value.proofs.scalars.real.Goals as goal
 
 pub returns-in-11 : goal.returns-in-11
 unfolding among width_of bits_of real_of
-returns-in-11 c = simp (c.in-11.is, c.single.ensures, c.u32_at.ensures)
+returns-in-11 c = simp (c.in-11.is, c.decoded.ensures, c.from.ensures, c.f32_of.ensures, c.u32_at-bits.ensures)
 
 pub returns-in-12 : goal.returns-in-12
 unfolding among width_of bits_of real_of
-returns-in-12 c = simp (c.in-12.is, c.double.ensures, c.u64_at.ensures)
+returns-in-12 c = simp (c.in-12.is, c.decoded-in-12.ensures, c.f64_of.ensures, c.u64_at-bits.ensures)
 
 pub returns-in_default : goal.returns-in_default
 unfolding among width_of bits_of real_of

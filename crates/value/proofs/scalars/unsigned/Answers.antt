@@ -13,18 +13,18 @@ use Rattle.value.proofs.scalars.unsigned.Goals as goal
 
 pub returns-in-4 : goal.returns-in-4
 unfolding among width_of bits_of unsigned_of
-returns-in-4 c = simp (c.in-4.is, c.whole.ensures, c.u8_at.ensures)
+returns-in-4 c = simp (c.in-4.is, c.whole.ensures, c.u8_at.ensures, c.from.ensures)
 
 pub returns-in-6 : goal.returns-in-6
 unfolding among width_of bits_of unsigned_of
-returns-in-6 c = simp (c.in-6.is, c.whole-in-6.ensures, c.u16_at.ensures)
+returns-in-6 c = simp (c.in-6.is, c.whole-in-6.ensures, c.u16_at.ensures, c.from-in-6.ensures)
 
 pub returns-in-8 : goal.returns-in-8
 unfolding among width_of bits_of unsigned_of
 returns-in-8 c =
     let b = c.args.bytes.now in
     let n = number_of b 0 4 in
-    let e : decoding_answer c.whole-in-8.result ≡ decoded n (Unsigned n) = simp (c.whole-in-8.ensures, c.u32_at.ensures) in
+    let e : decoding_answer c.whole-in-8.result ≡ decoded n (Unsigned n) = simp (c.whole-in-8.ensures, c.u32_at.ensures, c.from-in-8.ensures) in
     in_arm (λ i. decoding_answer c.whole-in-8.result ≡ unsigned_of i (bits_of i b)) (0x08 ∷ 0x0D ∷ 0x14 ∷ []) (e, (e, (e, tt))) c.args.code c.in-8.is
 
 pub returns-in-10 : goal.returns-in-10

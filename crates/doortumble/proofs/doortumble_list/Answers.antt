@@ -1,8 +1,0 @@
--- `doortumble_list` meets its contract. Assumes nothing.
-use Rattle.cursor.specs.Answers.{count_answer}
-use Rattle.doortumble.proofs.doortumble_list.Goals as goal
-
-pub returns : goal.returns
-returns c =
-    let l = c.list in
-    (count_answer l.result, (c.packed.ensures, l.ensures))
