@@ -1,6 +1,6 @@
 -- A whole reading, as an outcome and a table. Assumes nothing.
 use Rattle.std.specs.Prelude.{Ok, Err, Result}
-use Rattle.cursor.specs.declared.Refusal.{Refusal}
+use Rattle.body.specs.declared.reader.Misread.{Misread}
 use mathlib.Core.Path.{◌≡◌, sym, ap, ◌∙◌}
 use mathlib.Core.Bool.{true}
 use mathlib.Core.List.{List}
@@ -14,7 +14,7 @@ use Rattle.body.specs.Verdict.{deepest}
 use Rattle.body.specs.Reader.{begin, Out, accepted, outcome, words_from, walk, refused, whole_of}
 use Rattle.body.proofs.Agree.{words_length}
 
-left_is : (r : Result ℕ Refusal) (left : List ℕ) (o : Out) (l : List ℕ) → whole_of r left ≡ (o, l) → left ≡ l
+left_is : (r : Result ℕ Misread) (left : List ℕ) (o : Out) (l : List ℕ) → whole_of r left ≡ (o, l) → left ≡ l
 left_is (Ok j) left o l e = ap (λ (x : Out × List ℕ). x.1) e
 left_is (Err r) left o l e = ap (λ (x : Out × List ℕ). x.1) e
 
@@ -23,14 +23,14 @@ module _ (t : List ℕ) where
   words = words_from true deepest begin 0 t
 
   -- a whole reading answers as the walk does
-  module _ (r : Result ℕ Refusal) (left table : List ℕ) (e : whole_of r left ≡ walk t begin 0 table) where
+  module _ (r : Result ℕ Misread) (left table : List ℕ) (e : whole_of r left ≡ walk t begin 0 table) where
     pub whole_accepted : (j : ℕ) → r ≡ Ok j → outcome true deepest begin 0 t ≡ accepted
     unfolding walk
-    whole_accepted j h = sym (ap (λ (x : Out × List ℕ). x.0) (ap (λ (r : Result ℕ Refusal). whole_of r left) (sym h) ∙ e))
+    whole_accepted j h = sym (ap (λ (x : Out × List ℕ). x.0) (ap (λ (r : Result ℕ Misread). whole_of r left) (sym h) ∙ e))
 
-    pub whole_refused : (p k : ℕ) → r ≡ Err (record { number = k; place = p }) → outcome true deepest begin 0 t ≡ refused k p
+    pub whole_refused : (p k : ℕ) → r ≡ Err (record { place = p; number = k }) → outcome true deepest begin 0 t ≡ refused k p
     unfolding walk
-    whole_refused p k h = sym (ap (λ (x : Out × List ℕ). x.0) (ap (λ (r : Result ℕ Refusal). whole_of r left) (sym h) ∙ e))
+    whole_refused p k h = sym (ap (λ (x : Out × List ℕ). x.0) (ap (λ (r : Result ℕ Misread). whole_of r left) (sym h) ∙ e))
 
     pub whole_table : left ≡ sets table 0 words
     unfolding walk

@@ -1,7 +1,7 @@
 -- The verdict on marks as the reader comes to it. Assumes nothing.
 use Rattle.std.specs.Prelude as Std
 use Rattle.std.specs.Prelude.{Ok, Err}
-use Rattle.cursor.specs.declared.Refusal.{Refusal}
+use Rattle.body.specs.declared.reader.Misread.{Misread}
 use mathlib.Core.Path.{◌≡◌, refl, sym, ap, ◌∙◌}
 use mathlib.Core.Bool.{true}
 use mathlib.Core.List.{List}
@@ -22,7 +22,7 @@ pub marks_long : (t lent : List ℕ) → 65536 < length t → MarksJudged t lent
 marks_long t lent h =
     record { verdict = verdict_on t; judged = verdict_right t; answer = rw (lt-leb (length t) 65536 h); noted = rw (lt-leb (length t) 65536 h) }
 
-module _ (t lent left : List ℕ) (h : length t ≤ 65536) (r : Std.Result ℕ Refusal) (e : whole_of r left ≡ walk t begin 0 lent) where
+module _ (t lent left : List ℕ) (h : length t ≤ 65536) (r : Std.Result ℕ Misread) (e : whole_of r left ≡ walk t begin 0 lent) where
   made : (o : Result ℕ) → o ≡ count_of (verdict_on t) → MarksJudged t lent left o
   made o q =
       record {
@@ -38,7 +38,7 @@ module _ (t lent left : List ℕ) (h : length t ≤ 65536) (r : Std.Result ℕ R
       made (gives (length t))
       (ap gives (sym (words_length true deepest t begin 0 a)) ∙ ap (λ (o : Out). count_of (verdict_of o (words_from true deepest begin 0 t))) (sym a))
 
-  pub marks_refused : (p k : ℕ) → r ≡ Err (record { number = k; place = p }) → MarksJudged t lent left (refuses k p)
+  pub marks_refused : (p k : ℕ) → r ≡ Err (record { place = p; number = k }) → MarksJudged t lent left (refuses k p)
   marks_refused p k q =
       let a = whole_refused t r left lent e p k q in
       made (refuses k p) (ap (λ (o : Out). count_of (verdict_of o (words_from true deepest begin 0 t))) (sym a))

@@ -1,6 +1,6 @@
 -- The walk over marks, token by token: a law for each way on that the readers take. Assumes nothing.
 use Rattle.std.specs.Prelude.{Ok, Err, Result}
-use Rattle.cursor.specs.declared.Refusal.{Refusal}
+use Rattle.body.specs.declared.reader.Misread.{Misread}
 use mathlib.Core.Path.{◌≡◌, refl, sym, ap, subst, ◌∙◌}
 use mathlib.Core.Bool.{Bool, true, false}
 use mathlib.Core.List.{List, [], ◌∷◌}
@@ -231,9 +231,9 @@ module _ (t : List ℕ) (n : ℕ) (table : List ℕ) where
         sym (walk_step (inside (w ∷ st)) h ∙ ap (λ (k : ℕ). on_step t n table (turn true deepest (inside (w ∷ st)) n (announces (get_or t n 0)) k)) (eqb-true (kind_of (get_or t n 0)) open_kind e))
 
     -- an element's answer goes on from its open token
-    pub inside_child : (w : ℕ) (st left : List ℕ) (r r' : Result ℕ Refusal) → is_open (get_or t n 0) ≡ true → resume t (inside (w ∷ st)) r left ≡ opened t n w (w ∷ st) table → r ≡ r'
+    pub inside_child : (w : ℕ) (st left : List ℕ) (r r' : Result ℕ Misread) → is_open (get_or t n 0) ≡ true → resume t (inside (w ∷ st)) r left ≡ opened t n w (w ∷ st) table → r ≡ r'
         → resume t (inside (w ∷ st)) r' left ≡ walk t (inside (w ∷ st)) n table
-    inside_child w st left r r' k g e = subst (λ (r : Result ℕ Refusal). resume t (inside (w ∷ st)) r left ≡ walk t (inside (w ∷ st)) n table) e (g ∙ inside_open w st k)
+    inside_child w st left r r' k g e = subst (λ (r : Result ℕ Misread). resume t (inside (w ∷ st)) r left ≡ walk t (inside (w ∷ st)) n table) e (g ∙ inside_open w st k)
 
     pub inside_leaf : (w : ℕ) (st left : List ℕ) → is_leaf (get_or t n 0) ≡ true → left ≡ set table n w
         → walk t (inside (w ∷ st)) (n + 1) left ≡ walk t (inside (w ∷ st)) n table
@@ -279,10 +279,10 @@ module _ (t : List ℕ) (n : ℕ) (table : List ℕ) where
     root_open e = sym (walk_step root h ∙ ap (λ (k : ℕ). on_step t n table (turn true deepest root n (announces (get_or t n 0)) k)) (eqb-true (kind_of (get_or t n 0)) open_kind e))
 
     -- the root's answer, taken apart
-    pub root_child : (w : ℕ) (left : List ℕ) (r r' : Result ℕ Refusal) → is_open (get_or t n 0) ≡ true → w ≡ 0 → resume t (inside []) r left ≡ opened t n w [] table → r ≡ r'
+    pub root_child : (w : ℕ) (left : List ℕ) (r r' : Result ℕ Misread) → is_open (get_or t n 0) ≡ true → w ≡ 0 → resume t (inside []) r left ≡ opened t n w [] table → r ≡ r'
         → resume t (inside []) r' left ≡ walk t root n table
     root_child w left r r' k z g e =
-        subst (λ (r : Result ℕ Refusal). resume t (inside []) r left ≡ walk t root n table) e
+        subst (λ (r : Result ℕ Misread). resume t (inside []) r left ≡ walk t root n table) e
         (g ∙ ap (λ (x : ℕ). opened t n x [] table) z ∙ root_open k)
 
     pub root_instance : (left : List ℕ) → get_or t n 0 ≡ instance_kind → left ≡ set table n 0 → walk t (inside []) (n + 1) left ≡ walk t root n table
@@ -308,9 +308,9 @@ module _ (t : List ℕ) (n : ℕ) (table : List ℕ) where
       ∙ rw (lt-ltb (length st) deepest h)
 
   -- an open tag's answer goes on from the open token
-  pub opened_tag : (w : ℕ) (st mid left : List ℕ) (r r' : Result Tag Refusal) → length st < deepest → mid ≡ set table n w
+  pub opened_tag : (w : ℕ) (st mid left : List ℕ) (r r' : Result Tag Misread) → length st < deepest → mid ≡ set table n w
       → tag_resume t (n + 1) st r left ≡ walk t (tag (announces (get_or t n 0)) 0 (n + 1) st) (n + 1) mid → r ≡ r' → tag_resume t (n + 1) st r' left ≡ opened t n w st table
-  opened_tag w st mid left r r' h l g e = subst (λ (r : Result Tag Refusal). tag_resume t (n + 1) st r left ≡ opened t n w st table) e (g ∙ opened_on w st mid h l)
+  opened_tag w st mid left r r' h l g e = subst (λ (r : Result Tag Misread). tag_resume t (n + 1) st r left ≡ opened t n w st table) e (g ∙ opened_on w st mid h l)
 
   pub opened_deep : (w : ℕ) (st : List ℕ) → deepest ≤ length st → (refused too_deep_number n, table) ≡ opened t n w st table
   unfolding opening
@@ -351,12 +351,12 @@ unfolding turn kind_of
 follows n = refl
 
 -- a leaf's answer, taken apart
-pub resumed : (t left : List ℕ) (x : Out × List ℕ) (s : State) (r r' : Result ℕ Refusal) → resume t s r left ≡ x → r ≡ r' → resume t s r' left ≡ x
-resumed t left x s r r' h e = subst (λ (r : Result ℕ Refusal). resume t s r left ≡ x) e h
+pub resumed : (t left : List ℕ) (x : Out × List ℕ) (s : State) (r r' : Result ℕ Misread) → resume t s r left ≡ x → r ≡ r' → resume t s r' left ≡ x
+resumed t left x s r r' h e = subst (λ (r : Result ℕ Misread). resume t s r left ≡ x) e h
 
 -- an open tag's answer, taken apart
-pub tag_resumed : (t left : List ℕ) (x : Out × List ℕ) (me : ℕ) (st : List ℕ) (r r' : Result Tag Refusal) → tag_resume t me st r left ≡ x → r ≡ r' → tag_resume t me st r' left ≡ x
-tag_resumed t left x me st r r' h e = subst (λ (r : Result Tag Refusal). tag_resume t me st r left ≡ x) e h
+pub tag_resumed : (t left : List ℕ) (x : Out × List ℕ) (me : ℕ) (st : List ℕ) (r r' : Result Tag Misread) → tag_resume t me st r left ≡ x → r ≡ r' → tag_resume t me st r' left ≡ x
+tag_resumed t left x me st r r' h e = subst (λ (r : Result Tag Misread). tag_resume t me st r left ≡ x) e h
 
 -- what stands there is an open token, and is looked at: it is told so
 pub open_there : {A : Type 0} (t : List ℕ) (n at : ℕ) → n ≡ at → is_open (get_or t at 0) ≡ true → is_open (get_or t n 0) ≡ false → A
@@ -367,18 +367,18 @@ pub from_first : (t : List ℕ) (n at : ℕ) (table table₀ : List ℕ) → n �
 from_first t n at table table₀ e l = ap (λ (i : ℕ). walk t root i table) e ∙ ap (walk t root at) l
 
 module _ (t : List ℕ) (at : ℕ) where
-  pub further_is : (r r' : Result ℕ Refusal) → further t at r → r ≡ r' → further t at r'
+  pub further_is : (r r' : Result ℕ Misread) → further t at r → r ≡ r' → further t at r'
   further_is r r' h e = subst (further t at) e h
 
-  pub tag_further_is : (r r' : Result Tag Refusal) → TagFurther t at r → r ≡ r' → TagFurther t at r'
+  pub tag_further_is : (r r' : Result Tag Misread) → TagFurther t at r → r ≡ r' → TagFurther t at r'
   tag_further_is r r' h e = subst (TagFurther t at) e h
 
   -- what is further than a later token is further than an earlier one
-  pub later : (i : ℕ) (r : Result ℕ Refusal) → at ≤ i → further t i r → further t at r
+  pub later : (i : ℕ) (r : Result ℕ Misread) → at ≤ i → further t i r → further t at r
   later i (Ok j) l h = (omega (arith, h.0), h.1)
   later i (Err r) l h = h
 
-  pub tag_later : (i : ℕ) (r : Result Tag Refusal) → at ≤ i → TagFurther t i r → TagFurther t at r
+  pub tag_later : (i : ℕ) (r : Result Tag Misread) → at ≤ i → TagFurther t i r → TagFurther t at r
   tag_later i (Ok (T.Empty j)) l h = (omega (arith, h.0), h.1)
   tag_later i (Ok (T.Full j)) l h = (omega (arith, h.0), h.1)
   tag_later i (Err r) l h = h

@@ -4,7 +4,6 @@ use Rattle.std.specs.Prelude as Std
 use Rattle.std.specs.Prelude.{Ok, Err, ◌≡◌, Bool, true, false, ◌||◌, List, [], ◌∷◌, ℕ, suc, ◌+◌, ◌≤◌, ◌<◌, eqb, ltb, length, get_or, drop, set}
 use Rattle.std.proofs.lemmas.List.Edits.{sets}
 use Rattle.cursor.specs.Answer.{Result, gives, refuses, pick}
-use Rattle.cursor.specs.declared.Refusal.{Refusal}
 use Rattle.cursor.specs.Refusals.{no_body_number, too_deep_number, unfinished, disagree}
 use Rattle.tokens.specs.Token.{instance_kind, open_kind, close_start_kind, close_empty_kind, close_element_kind, value_kind, attribute_kind, entity_ref_kind, pi_target_kind, pi_data_kind, cdata_kind, char_ref_kind, substitution_kind}
 use Rattle.tokens.specs.Walk.{walk_at, counted_of}
@@ -12,6 +11,7 @@ use Rattle.tokens.specs.declared.Flags.{Flags}
 use Rattle.sheet.specs.Sheet.{marks_of, read_at}
 use Rattle.body.specs.Grammar.{Rule, announces, kind_of}
 use Rattle.body.specs.Verdict.{deepest}
+use Rattle.body.specs.declared.reader.Misread.{Misread}
 use Rattle.body.specs.declared.reader.Tag.{Tag}
 use Rattle.body.specs.declared.reader.Tag.TheVariants as T
 
@@ -129,26 +129,30 @@ words_from strict limit s n (k ∷ ks) =
 unfoldable pub walk : List ℕ → State → ℕ → List ℕ → Out × List ℕ
 walk t s n table = (outcome true deepest s n (drop n t), sets table n (words_from true deepest s n (drop n t)))
 
+-- why a reader refuses, by its number and place
+abbrev pub misread_of : ℕ → ℕ → Misread
+misread_of number place = record { place = place; number = number }
+
 -- a token of a stream's stands there
 abbrev pub TokenAt : List ℕ → ℕ → Type 0
 TokenAt t at = (at < length t) × (length t ≤ 65536)
 
 -- a reader that goes on has read a token at least, and stays within the tokens
-abbrev pub further : List ℕ → ℕ → Std.Result ℕ Refusal → Type 0
+abbrev pub further : List ℕ → ℕ → Std.Result ℕ Misread → Type 0
 further t at (Ok j) = (at < j) × (j ≤ length t)
 further t at (Err r) = Unit {0}
 
-abbrev pub TagFurther : List ℕ → ℕ → Std.Result Tag Refusal → Type 0
+abbrev pub TagFurther : List ℕ → ℕ → Std.Result Tag Misread → Type 0
 TagFurther t at (Ok (T.Empty j)) = (at < j) × (j ≤ length t)
 TagFurther t at (Ok (T.Full j)) = (at < j) × (j ≤ length t)
 TagFurther t at (Err r) = Unit {0}
 
 -- the whole answer, where a reader's answer leaves the state s behind it
-abbrev pub resume : List ℕ → State → Std.Result ℕ Refusal → List ℕ → Out × List ℕ
+abbrev pub resume : List ℕ → State → Std.Result ℕ Misread → List ℕ → Out × List ℕ
 resume t s (Ok j) table = walk t s j table
 resume t s (Err r) table = (refused r.number r.place, table)
 
-abbrev pub tag_resume : List ℕ → ℕ → List ℕ → Std.Result Tag Refusal → List ℕ → Out × List ℕ
+abbrev pub tag_resume : List ℕ → ℕ → List ℕ → Std.Result Tag Misread → List ℕ → Out × List ℕ
 tag_resume t me st (Ok (T.Empty j)) table = walk t (inside st) j table
 tag_resume t me st (Ok (T.Full j)) table = walk t (inside (me ∷ st)) j table
 tag_resume t me st (Err r) table = (refused r.number r.place, table)
@@ -162,35 +166,35 @@ abbrev pub opened : List ℕ → ℕ → ℕ → List ℕ → List ℕ → Out �
 opened t at w st table = on_step t at table (opening deepest (announces (get_or t at 0)) w st at)
 
 -- A reader's answer and table are those of the whole, whatever elements are open above it: the stack `st` has their words.
-abbrev pub ElementRead : List ℕ → ℕ → ℕ → ℕ → List ℕ → Std.Result ℕ Refusal → List ℕ → Type 0
+abbrev pub ElementRead : List ℕ → ℕ → ℕ → ℕ → List ℕ → Std.Result ℕ Misread → List ℕ → Type 0
 ElementRead t at above w table r left = (st : List ℕ) → length st ≡ above → resume t (inside st) r left ≡ opened t at w st table
 
 -- Content is that of the element of a level, the innermost of so many; at level 0 there is the root alone, whose open token comes first.
 abbrev pub Placed : List ℕ → ℕ → ℕ → ℕ → Type 0
 Placed t at level me = level ≡ 0 → (at < length t) × (is_open (get_or t at 0) ≡ true) × (me ≡ 0)
 
-abbrev pub ContentRead : List ℕ → ℕ → ℕ → ℕ → List ℕ → Std.Result ℕ Refusal → List ℕ → Type 0
+abbrev pub ContentRead : List ℕ → ℕ → ℕ → ℕ → List ℕ → Std.Result ℕ Misread → List ℕ → Type 0
 ContentRead t at level me table r left =
     (level ≡ 0 → resume t (inside []) r left ≡ walk t root at table)
     × ((st : List ℕ) → suc (length st) ≡ level → resume t (inside st) r left ≡ walk t (inside (me ∷ st)) at table)
 
-abbrev pub LeafRead : List ℕ → ℕ → ℕ → List ℕ → Std.Result ℕ Refusal → List ℕ → Type 0
+abbrev pub LeafRead : List ℕ → ℕ → ℕ → List ℕ → Std.Result ℕ Misread → List ℕ → Type 0
 LeafRead t at me table r left = (st : List ℕ) → resume t (inside (me ∷ st)) r left ≡ walk t (inside (me ∷ st)) at table
 
-abbrev pub TagRead : Bool → List ℕ → ℕ → ℕ → ℕ → List ℕ → Std.Result Tag Refusal → List ℕ → Type 0
+abbrev pub TagRead : Bool → List ℕ → ℕ → ℕ → ℕ → List ℕ → Std.Result Tag Misread → List ℕ → Type 0
 TagRead announced t at last me table r left = (st : List ℕ) → tag_resume t me st r left ≡ walk t (tag announced last me st) at table
 
 -- leaves in content, none or more, and the close token, if it follows: then the element is over
-abbrev pub LeavesRead : List ℕ → ℕ → ℕ → List ℕ → Std.Result Tag Refusal → List ℕ → Type 0
+abbrev pub LeavesRead : List ℕ → ℕ → ℕ → List ℕ → Std.Result Tag Misread → List ℕ → Type 0
 LeavesRead t at me table r left =
     ((before : ℕ) → before < at → TagFurther t before r) × ((st : List ℕ) → tag_resume t me st r left ≡ walk t (inside (me ∷ st)) at table)
 
 -- after an open token at `at`
-abbrev pub OpenRead : List ℕ → ℕ → ℕ → List ℕ → Std.Result Tag Refusal → List ℕ → Type 0
+abbrev pub OpenRead : List ℕ → ℕ → ℕ → List ℕ → Std.Result Tag Misread → List ℕ → Type 0
 OpenRead t at me table r left = TagRead (announces (get_or t at 0)) t (at + 1) 0 me table r left
 
 -- whatever attribute was the last, where a close token may follow; an item there has none before it
-abbrev pub TagEndRead : List ℕ → ℕ → ℕ → List ℕ → Std.Result Tag Refusal → List ℕ → Type 0
+abbrev pub TagEndRead : List ℕ → ℕ → ℕ → List ℕ → Std.Result Tag Misread → List ℕ → Type 0
 TagEndRead t at me table r left =
     (announced : Bool) (last : ℕ) → closes announced last ≡ true → (is_item (get_or t at 0) ≡ true → last ≡ 0) → TagRead announced t at last me table r left
 
@@ -199,15 +203,15 @@ abbrev pub lacking_of : ℕ → ℕ
 lacking_of mark = pick (eqb mark close_empty_kind) disagree (pick (eqb mark close_start_kind) disagree no_body_number)
 
 -- a PI target and its data, from any state in which a target may stand, with the word w: s' is the state after the data
-abbrev pub PairRead : List ℕ → ℕ → ℕ → List ℕ → Std.Result ℕ Refusal → List ℕ → Type 0
+abbrev pub PairRead : List ℕ → ℕ → ℕ → List ℕ → Std.Result ℕ Misread → List ℕ → Type 0
 PairRead t at w table r left = (s s' : State) → step true deepest s at pi_target_kind ≡ move w (target w s') → resume t s' r left ≡ walk t s at table
 
 -- a reader's answer and table are those of the whole, from the state s on; s' is the state that it leaves
-abbrev pub PartRead : State → State → List ℕ → ℕ → List ℕ → Std.Result ℕ Refusal → List ℕ → Type 0
+abbrev pub PartRead : State → State → List ℕ → ℕ → List ℕ → Std.Result ℕ Misread → List ℕ → Type 0
 PartRead s s' t at table r left = resume t s' r left ≡ walk t s at table
 
 -- a whole body's answer
-abbrev pub whole_of : Std.Result ℕ Refusal → List ℕ → Out × List ℕ
+abbrev pub whole_of : Std.Result ℕ Misread → List ℕ → Out × List ℕ
 whole_of (Ok j) table = (accepted, table)
 whole_of (Err r) table = (refused r.number r.place, table)
 

@@ -4,14 +4,37 @@
 //
 // The loops over marks go by an index: it moves by what was read, and the words stand at the same index of the table. Marks and table stay two
 // parameters: in a struct the table would be a `&mut` behind a `&mut`, and each clause on it would speak of its ghost name.
-ghost use Rattle.std.specs.Prelude.{◌≡◌, true, false, [], ◌+◌, ◌≤◌, ◌<◌, length, get_or};
+ghost use Rattle.std.specs.Prelude.{◌≡◌, true, false, [], ◌+◌, ◌≤◌, ◌<◌, length, get_or, Err};
 ghost use Rattle.tokens.specs.Token.{close_element_kind, attribute_kind, pi_target_kind};
 ghost use Rattle.body.specs.Grammar.{announces};
-ghost use Rattle.body.specs.Reader.{is_open, is_item, is_leaf, lacking_of, TokenAt, further, TagFurther, ElementRead, Placed, ContentRead, LeafRead, LeavesRead, TagRead, OpenRead, TagEndRead, PairRead, PartRead, whole_of, walk, begin, root, inside};
+ghost use Rattle.body.specs.Reader.{misread_of, is_open, is_item, is_leaf, lacking_of, TokenAt, further, TagFurther, ElementRead, Placed, ContentRead, LeafRead, LeavesRead, TagRead, OpenRead, TagEndRead, PairRead, PartRead, whole_of, walk, begin, root, inside};
 
-use cursor::{Refusal, refuse};
+use cursor::Refusal;
 use sheet::put;
 use tokens::Token;
+
+// Why a reader refuses. (The place comes first: it then lies in memory where the next token's number does. An element's answer goes through
+// memory, and a byte laid over that number had it put there in pieces.)
+#[derive(Clone, Copy)]
+pub struct Misread {
+    pub place: usize,
+    pub number: u8,
+}
+
+// Outside the readers it is the refusal of all crates.
+impl From<Misread> for Refusal {
+    ghost use Rattle.std.specs.Prelude.{◌≡◌};
+    ghost use Rattle.cursor.specs.Answers.{refusal_of};
+
+    ghost from_gives = { λ m r. r ≡ refusal_of m.number m.place };
+
+    fn from(m: Misread) -> Refusal {
+        Refusal {
+            number: m.number,
+            place: m.place,
+        }
+    }
+}
 
 // How far the front of an element was read, with the token after that: the element is over, or its content goes on there.
 #[derive(Clone, Copy)]
@@ -20,8 +43,15 @@ pub enum Tag {
     Full(usize),
 }
 
+// A refusal as a reader's answer, of whatever else would be answered.
+fn refuse<T>(number: u8, place: usize) -> Result<T, Misread>
+    ensures { result ≡ Err (misread_of number place) }
+{
+    Err(Misread { place, number })
+}
+
 // Reads a whole body: "at most one target and data pair, then one instance or element, then at most one pair".
-pub(crate) fn whole(marks: &[u8], table: &mut [u32]) -> Result<usize, Refusal>
+pub(crate) fn whole(marks: &[u8], table: &mut [u32]) -> Result<usize, Misread>
     requires { length marks.now ≤ 65536 }
     ensures { whole_of result table.new ≡ walk marks.now begin 0 table.old }
 {
@@ -31,7 +61,7 @@ pub(crate) fn whole(marks: &[u8], table: &mut [u32]) -> Result<usize, Refusal>
 }
 
 // Reads the pair before the root, where there is one.
-fn leading(marks: &[u8], table: &mut [u32]) -> Result<usize, Refusal>
+fn leading(marks: &[u8], table: &mut [u32]) -> Result<usize, Misread>
     ensures { PartRead begin root marks.now 0 table.old result table.new }
 {
     if marks.len() == 0 {
@@ -44,7 +74,7 @@ fn leading(marks: &[u8], table: &mut [u32]) -> Result<usize, Refusal>
 }
 
 // Reads the root: an element or an instance.
-fn root_at(marks: &[u8], at: usize, table: &mut [u32]) -> Result<usize, Refusal>
+fn root_at(marks: &[u8], at: usize, table: &mut [u32]) -> Result<usize, Misread>
     requires { length marks.now ≤ 65536 }
     ensures { PartRead root (inside []) marks.now at table.old result table.new }
 {
@@ -62,7 +92,7 @@ fn root_at(marks: &[u8], at: usize, table: &mut [u32]) -> Result<usize, Refusal>
 }
 
 // Reads what follows the root: a pair or nothing.
-fn closing(marks: &[u8], at: usize, table: &mut [u32]) -> Result<usize, Refusal>
+fn closing(marks: &[u8], at: usize, table: &mut [u32]) -> Result<usize, Misread>
     ensures { whole_of result table.new ≡ walk marks.now (inside []) at table.old }
 {
     if at >= marks.len() {
@@ -86,7 +116,7 @@ fn element(
     above: usize,
     owner: u32,
     table: &mut [u32],
-) -> Result<usize, Refusal>
+) -> Result<usize, Misread>
     requires { TokenAt marks.now at }
     ensures further { further marks.now at result }
     ensures element_read { ElementRead marks.now at above owner table.old result table.new }
@@ -112,7 +142,7 @@ fn content(
     level: usize,
     me: u32,
     table: &mut [u32],
-) -> Result<usize, Refusal>
+) -> Result<usize, Misread>
     requires { (at ≤ length marks.now) × (length marks.now ≤ 65536) × Placed marks.now at level me }
     ensures further { further marks.now at result }
     ensures content_read { ContentRead marks.now at level me table.old result table.new }
@@ -135,7 +165,7 @@ fn content(
 }
 
 // Reads what content holds beside elements: an item, CDATA, or an instruction.
-fn leaf(marks: &[u8], at: usize, me: u32, table: &mut [u32]) -> Result<usize, Refusal>
+fn leaf(marks: &[u8], at: usize, me: u32, table: &mut [u32]) -> Result<usize, Misread>
     requires { (at < length marks.now) × (get_or marks.now at 0 ≡ close_element_kind → ⊥) × (is_open (get_or marks.now at 0) ≡ false) }
     ensures further { further marks.now at result }
     ensures leaf_read { LeafRead marks.now at me table.old result table.new }
@@ -152,7 +182,7 @@ fn leaf(marks: &[u8], at: usize, me: u32, table: &mut [u32]) -> Result<usize, Re
 }
 
 // Reads a PI target and the PI data that must follow it, each with the word `me`: in content, or around the root.
-fn instruction(marks: &[u8], at: usize, me: u32, table: &mut [u32]) -> Result<usize, Refusal>
+fn instruction(marks: &[u8], at: usize, me: u32, table: &mut [u32]) -> Result<usize, Misread>
     requires { (at < length marks.now) × (get_or marks.now at 0 ≡ pi_target_kind) }
     ensures further { further marks.now at result }
     ensures pair_read { PairRead marks.now at me table.old result table.new }
@@ -170,7 +200,7 @@ fn instruction(marks: &[u8], at: usize, me: u32, table: &mut [u32]) -> Result<us
 
 // Reads the front of an element, whose open token is at `at` and has the word `me` for what it owns: the open tag, and of its content the
 // tokens before the first element or instruction. An element without these is read whole.
-fn front(marks: &[u8], at: usize, me: u32, table: &mut [u32]) -> Result<Tag, Refusal>
+fn front(marks: &[u8], at: usize, me: u32, table: &mut [u32]) -> Result<Tag, Misread>
     requires { TokenAt marks.now at }
     ensures tag_further { TagFurther marks.now (at + 1) result }
     ensures open_read { OpenRead marks.now at me table.old result table.new }
@@ -182,7 +212,7 @@ fn front(marks: &[u8], at: usize, me: u32, table: &mut [u32]) -> Result<Tag, Ref
 }
 
 // Reads items and CDATA in content, and the close element token behind them, if it is there.
-fn leaves(marks: &[u8], at: usize, me: u32, table: &mut [u32]) -> Result<Tag, Refusal>
+fn leaves(marks: &[u8], at: usize, me: u32, table: &mut [u32]) -> Result<Tag, Misread>
     requires { at ≤ length marks.now }
     ensures { LeavesRead marks.now at me table.old result table.new }
 {
@@ -203,7 +233,7 @@ fn leaves(marks: &[u8], at: usize, me: u32, table: &mut [u32]) -> Result<Tag, Re
 }
 
 // Reads an open tag, whose open token is at `at` and has the word `me` for what it owns, through its close token.
-fn open_tag(marks: &[u8], at: usize, me: u32, table: &mut [u32]) -> Result<Tag, Refusal>
+fn open_tag(marks: &[u8], at: usize, me: u32, table: &mut [u32]) -> Result<Tag, Misread>
     requires { TokenAt marks.now at }
     ensures tag_further { TagFurther marks.now (at + 1) result }
     ensures open_read { OpenRead marks.now at me table.old result table.new }
@@ -218,7 +248,7 @@ fn open_tag(marks: &[u8], at: usize, me: u32, table: &mut [u32]) -> Result<Tag, 
 }
 
 // Reads on after an open token that announces attributes: one must follow.
-fn announced_tag(marks: &[u8], at: usize, me: u32, table: &mut [u32]) -> Result<Tag, Refusal>
+fn announced_tag(marks: &[u8], at: usize, me: u32, table: &mut [u32]) -> Result<Tag, Misread>
     requires { TokenAt marks.now at }
     ensures tag_further { TagFurther marks.now at result }
     ensures tag_read { TagRead true marks.now at 0 me table.old result table.new }
@@ -243,7 +273,7 @@ fn lacking(mark: u8) -> u8
 }
 
 // Reads on after an open token that announces nothing: no attribute may follow.
-fn plain_tag(marks: &[u8], at: usize, me: u32, table: &mut [u32]) -> Result<Tag, Refusal>
+fn plain_tag(marks: &[u8], at: usize, me: u32, table: &mut [u32]) -> Result<Tag, Misread>
     requires { at < length marks.now }
     ensures tag_further { TagFurther marks.now at result }
     ensures tag_read { TagRead false marks.now at 0 me table.old result table.new }
@@ -255,7 +285,7 @@ fn plain_tag(marks: &[u8], at: usize, me: u32, table: &mut [u32]) -> Result<Tag,
 }
 
 // Reads attributes with their items, the first at `at`, through the tag's close token. `last` is the last attribute's word.
-fn attributes(marks: &[u8], at: usize, me: u32, table: &mut [u32]) -> Result<Tag, Refusal>
+fn attributes(marks: &[u8], at: usize, me: u32, table: &mut [u32]) -> Result<Tag, Misread>
     requires { (at < length marks.now) × (length marks.now ≤ 65536) × (get_or marks.now at 0 ≡ attribute_kind) }
     ensures tag_further { TagFurther marks.now at result }
     ensures tag_read { TagRead true marks.now at 0 me table.old result table.new }
@@ -279,7 +309,7 @@ fn attributes(marks: &[u8], at: usize, me: u32, table: &mut [u32]) -> Result<Tag
 }
 
 // Reads the close token of an open tag.
-fn tag_end(marks: &[u8], at: usize, me: u32, table: &mut [u32]) -> Result<Tag, Refusal>
+fn tag_end(marks: &[u8], at: usize, me: u32, table: &mut [u32]) -> Result<Tag, Misread>
     requires { (at < length marks.now) × (get_or marks.now at 0 ≡ attribute_kind → ⊥) }
     ensures tag_further { TagFurther marks.now at result }
     ensures tag_end_read { TagEndRead marks.now at me table.old result table.new }
@@ -292,7 +322,7 @@ fn tag_end(marks: &[u8], at: usize, me: u32, table: &mut [u32]) -> Result<Tag, R
         put(table, at, me);
         return Ok(Tag::Full(at + 1));
     }
-    refuse(Refusal::NO_BODY, at)
+    refuse(Refusal::NO_BODY, at) // nothing else stands in an open tag
 }
 
 // An open token, by its mark.

@@ -1,5 +1,5 @@
 -- Little-endian numbers: one fact over the width. Assumes nothing.
-use mathlib.Core.Path.{◌≡◌, refl}
+use mathlib.Core.Path.{◌≡◌, refl, ap, ◌∙◌}
 use mathlib.Core.List.{List, [], ◌∷◌, ◌++◌}
 use Prim.Native.Nat.{ℕ, zero, suc, ◌+◌, ◌*◌, ◌^◌, ◌≤◌, ◌<◌}
 use native.Mathlib.Nat.{zero-add, suc-add, pow-succ'}
@@ -27,8 +27,10 @@ number_one s at h = rw (drop-cons s at 0) (omega arith)
 
 -- a number of more is its first byte, and 256 times the number of those after it
 pub number_more : (s : List ℕ) (at next w : ℕ) → at < length s → next ≡ at + 1 → number_of s at (suc w) ≡ get_or s at 0 + 256 * number_of s next w
-unfolding little
-number_more s at next w h e = rw (drop-cons s at 0 h, e, add-one)
+number_more s at next w h e = rw (e, ← (number_one s at h), suc_is w) (number_add s at 1 w)
+  where
+    suc_is : (n : ℕ) → suc n ≡ 1 + n
+    suc_is n = omega arith
 
 -- past the end there is no byte
 pub number_none : (s : List ℕ) (at w : ℕ) → length s ≤ at → number_of s at w ≡ 0
@@ -57,3 +59,20 @@ before_zeros (x ∷ l) z (suc w) e = rw (before_zeros l z w e)
 pub number_filled : (l : List ℕ) (w : ℕ) → little (take w (l ++ drop (length l) (0 ∷ 0 ∷ 0 ∷ 0 ∷ 0 ∷ 0 ∷ 0 ∷ 0 ∷ []))) ≡ little (take w l)
 unfolding zeros
 number_filled l w = before_zeros l _ w (of_zeros 8 (length l))
+
+-- of at most eight bytes, each or zero where there is none: no number of them is another one
+pub number_each : (l : List ℕ) (w : ℕ) → length l ≤ 8
+    → little (take w (get_or l 0 0 ∷ get_or l 1 0 ∷ get_or l 2 0 ∷ get_or l 3 0 ∷ get_or l 4 0 ∷ get_or l 5 0 ∷ get_or l 6 0 ∷ get_or l 7 0 ∷ [])) ≡ little (take w l)
+number_each l w h = ap (λ (x : List ℕ). little (take w x)) (each l h) ∙ number_filled l w
+  where
+    each : (l : List ℕ) → length l ≤ 8 → get_or l 0 0 ∷ get_or l 1 0 ∷ get_or l 2 0 ∷ get_or l 3 0 ∷ get_or l 4 0 ∷ get_or l 5 0 ∷ get_or l 6 0 ∷ get_or l 7 0 ∷ [] ≡ l ++ drop (length l) (0 ∷ 0 ∷ 0 ∷ 0 ∷ 0 ∷ 0 ∷ 0 ∷ 0 ∷ [])
+    each [] h = refl
+    each (a ∷ []) h = refl
+    each (a ∷ b ∷ []) h = refl
+    each (a ∷ b ∷ c ∷ []) h = refl
+    each (a ∷ b ∷ c ∷ d ∷ []) h = refl
+    each (a ∷ b ∷ c ∷ d ∷ e ∷ []) h = refl
+    each (a ∷ b ∷ c ∷ d ∷ e ∷ f ∷ []) h = refl
+    each (a ∷ b ∷ c ∷ d ∷ e ∷ f ∷ g ∷ []) h = refl
+    each (a ∷ b ∷ c ∷ d ∷ e ∷ f ∷ g ∷ i ∷ []) h = refl
+    each (a ∷ b ∷ c ∷ d ∷ e ∷ f ∷ g ∷ i ∷ j ∷ l) h = absurd (omega arith)

@@ -1,5 +1,5 @@
 // Numbers of one, two, four and eight bytes, the first byte the lowest.
-ghost use Rattle.std.specs.Prelude.{◌≡◌, ℕ, ◌+◌, ◌<◌, ◌≤◌, length};
+ghost use Rattle.std.specs.Prelude.{◌≡◌, ℕ, ◌+◌, ◌<◌, ◌≤◌, length, get_or};
 ghost use Rattle.std.proofs.Common.{rules};
 ghost use Rattle.cursor.specs.Reads.{number_of};
 
@@ -97,15 +97,31 @@ pub(crate) fn number_at<N: Number>(s: &[u8], at: usize) -> N
     N::at(&filled(s, at), 0)
 }
 
-// The bytes from a position on, which are fewer than eight, and zeros behind them.
+// The bytes from a position on, which are fewer than eight, and zeros behind them. (Byte by byte: a copy of so many bytes would be a call, in
+// every read whose bytes the compiler does not know to be there.)
 fn filled(s: &[u8], at: usize) -> [u8; 8]
     requires { length s.now < at + 8 }
     ensures { (w : ℕ) → number_of result 0 w ≡ number_of s.now at w }
 {
-    let mut bytes = [0u8; 8];
-    if at < s.len() {
-        let rest = &s[at..];
-        bytes[..rest.len()].copy_from_slice(rest);
+    if s.len() <= at {
+        return [0u8; 8];
     }
-    bytes
+    let rest = &s[at..];
+    [
+        byte(rest, 0),
+        byte(rest, 1),
+        byte(rest, 2),
+        byte(rest, 3),
+        byte(rest, 4),
+        byte(rest, 5),
+        byte(rest, 6),
+        byte(rest, 7),
+    ]
+}
+
+// A byte, or zero where there is none.
+fn byte(s: &[u8], at: usize) -> u8
+    ensures { result ≡ get_or s.now at 0 }
+{
+    if at < s.len() { s[at] } else { 0 }
 }

@@ -53,6 +53,10 @@ use Rattle.cursor.proofs.unit_at.Kinds as unit_atK
 use Rattle.cursor.proofs.unit_at.Reads as unit_atR
 use Rattle.cursor.proofs.Part.of.Kinds as ofK
 use Rattle.cursor.proofs.Part.of.Reads as ofR
+use Rattle.cursor.proofs.refuse.Kinds as refuseK
+use Rattle.cursor.proofs.refuse.Reads as refuseR
+use denote.RattleType.{RattleType}
+use denote.Param.Laws.{Laws}
 use Rattle.promises.proofs.One.{Single, counted_one, read_back, read_one}
 
 pub moved_one : (x y : Result Cursor Refusal) (b : Answer Unit) → moved_answer x ≡ b → moved_answer y ≡ b → x ≡ y
@@ -65,6 +69,10 @@ moved_one = read_back moved_answer moved_back back
     back : (x : Result Cursor Refusal) → moved_back (moved_answer x) ≡ x
     back (Ok c) = refl
     back (Err r) = refl
+
+-- whatever else would be answered
+pub refuse : (T : RattleType) (l : Laws T) → Single 1 (refuseK.ps T l) (refuseK.r T l) (refuseR.Post T l)
+refuse T l κs a x y s t p q = p ∙ sym q
 
 pub with_pos : Single 1 with_posK.ps with_posK.r with_posR.Post
 with_pos κs a x y s t p q = moved_one x y _ p q

@@ -23,6 +23,12 @@ use Rattle.sheet.proofs.second_word.Kinds as secondK
 use Rattle.sheet.proofs.second_word.Reads as secondR
 use Rattle.sheet.proofs.without_bit.Kinds as withoutBitK
 use Rattle.sheet.proofs.without_bit.Reads as withoutBitR
+use Rattle.sheet.proofs.put.Kinds as putK
+use Rattle.sheet.proofs.put.Reads as putR
+use denote.RattleType.{RattleType}
+use denote.Param.Laws.{Laws, IsCopy}
+use Rattle.std.specs.declared.clone.Clone.{Ghosts}
+use mir.Syntax.{Dict}
 use Rattle.promises.proofs.One.{Single, counted_one}
 
 pub count : Single 1 countK.ps countK.r countR.Post
@@ -60,3 +66,9 @@ pub note_beside : (κs : Lfts 4) (a : Dens κs noteBesideK.ps) (x y : (res_t not
     → noteBesideR.Post κs a x s → noteBesideR.Post κs a y t
     → (x ≡ y) × (s.1.1.1.1.1.1.0.now ≡ t.1.1.1.1.1.1.0.now) × (s.1.1.1.1.1.1.1.0.now ≡ t.1.1.1.1.1.1.1.0.now)
 note_beside κs a x y s t p q = (counted_one x y _ p.0 q.0, p.1.0 ∙ sym q.1.0, p.1.1 ∙ sym q.1.1)
+
+-- of numbers of any kind; how they are copied does not show
+pub put : (T : RattleType) (l : Laws T) (c : IsCopy T) (g : Ghosts T.Denot) (d : Dict) (κs : Lfts 2) (a : Dens κs (putK.ps T l c))
+    (x y : (res_t (putK.r T l c) κs).Denot) (s t : AtExit (ended_of 2 (putK.ps T l c) (putK.r T l c)) κs)
+    → putR.Post T l c g d κs a x s → putR.Post T l c g d κs a y t → s.0.now ≡ t.0.now
+put T l c g d κs a x y s t p q = p ∙ sym q

@@ -1,11 +1,7 @@
 -- What only the private functions of this crate cite: their answers, the pieces of the definitions of Value.antt that the code has, and
 -- what they ask for.
-use Rattle.std.specs.Prelude.{Ok, Err, Result}
-use Rattle.cursor.specs.declared.Cursor.{Cursor}
-use Rattle.cursor.specs.declared.Refusal.{Refusal}
 use Rattle.std.specs.Prelude.{◌≡◌, false, List, ℕ, ◌+◌, ◌^◌, ◌<◌, eqb, leb, ltb, length, drop}
 use Rattle.cursor.specs.Answer.{Answer, given, refused, ◌then◌, pick}
-use Rattle.cursor.specs.Answers.{refusal, read_answer}
 use Rattle.cursor.specs.Reads.{take_at, array_at}
 use Rattle.cursor.specs.Text.{prefixed_at}
 use Rattle.cursor.specs.Refusals.{past_end}
@@ -58,12 +54,3 @@ place_of (Bytes p) = p.start
 abbrev pub Movable : ℕ → Answer Content → Type 0
 Movable start (given x next) = (start + place_of x < 2 ^ 64) × (start + next < 2 ^ 64)
 Movable start (refused number place) = start + place < 2 ^ 64
-
--- the content that a closure makes of what was read; `post` says that a call may return it
-abbrev pub MovableBy : {A : Type 0} → (A → Content → Type 0) → ℕ → Result (A × Cursor) Refusal → Type 0
-MovableBy {A} post start got =
-    (h : A → Content) × ((x : A) (r : Content) → post x r → r ≡ h x) × Movable start (read_answer got then λ x next. given (h x) next)
-
-abbrev pub MovedBy : {A : Type 0} → (A → Content → Type 0) → ℕ → Result (A × Cursor) Refusal → Result (Content × Cursor) Refusal → Type 0
-MovedBy {A} post start got result =
-    (h : A → Content) → ((x : A) (r : Content) → post x r → r ≡ h x) → read_answer result ≡ moved start (read_answer got then λ x next. given (h x) next)

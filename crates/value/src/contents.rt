@@ -2,10 +2,11 @@
 // stream: each read is a read of the cursor at the beginning of `rest`, and what was read is moved by `start`. It is moved as soon as it is
 // read: a caller who asks for the end alone then pays for nothing else.
 ghost use Rattle.std.specs.Prelude.{◌≡◌, ◌+◌, ◌^◌, ◌<◌, length};
+ghost use Rattle.cursor.specs.Answer.{◌then◌};
 ghost use Rattle.cursor.specs.Answers.{read_answer};
 ghost use Rattle.cursor.specs.Reads.{part_moved};
-ghost use Rattle.value.specs.Value.{placed, moved, tells_length, told_in, takes_size, size_t_in, not_read, sized_in};
-ghost use Rattle.value.specs.Pieces.{fixed_in, by_size_in, place_of, MovableBy, MovedBy};
+ghost use Rattle.value.specs.Value.{as_bytes, as_number, as_text, moved, tells_length, told_in, takes_size, size_t_in, not_read, sized_in};
+ghost use Rattle.value.specs.Pieces.{fixed_in, by_size_in, Movable};
 
 use crate::{Content, Kind};
 use cursor::{Cursor, Part, Read, Refusal, View};
@@ -29,7 +30,7 @@ pub(crate) fn told(rest: &[u8], start: usize, code: u8) -> Read<Content>
         return fixed(rest, start, width);
     }
     if code == Kind::SID {
-        return moved(BEGINNING.read_sid(rest), start, |p| Content::Bytes(p));
+        return bytes(BEGINNING.read_sid(rest), start);
     }
     Ok((Content::Nothing, Cursor { at: start }))
 }
@@ -43,11 +44,7 @@ pub(crate) fn sized(rest: &[u8], start: usize, code: u8, size: usize) -> Read<Co
         return told(rest, start, code);
     }
     if code == Kind::STRING {
-        return moved(
-            BEGINNING.utf16_by_char_count(rest, size / 2),
-            start,
-            |v| Content::Text(v),
-        );
+        return text(BEGINNING.utf16_by_char_count(rest, size / 2), start);
     }
     by_size(rest, start, code, size)
 }
@@ -63,15 +60,15 @@ pub(crate) fn not_read(code: u8) -> u8
     }
 }
 
-// What was read is moved here, and so is a refusal: `content` makes of it what the value holds.
-fn moved<T, F: Fn(T) -> Content>(got: Read<T>, start: usize, content: F) -> Read<Content>
-    requires callable { F.IsAlwaysCallable content }
-    requires fits { MovableBy (F.post content) start got }
-    ensures { MovedBy (F.post content) start got result }
+// What was read is moved here, and so is a refusal. A function for each kind of content, and no closure that makes it: a content that is moved
+// after it was made went through memory with the unused bytes beside `sound`, and an event of many values took twice as long.
+fn bytes(got: Read<Part>, start: usize) -> Read<Content>
+    requires { Movable start (read_answer got then as_bytes) }
+    ensures { read_answer result ≡ moved start (read_answer got then as_bytes) }
 {
     match got {
-        Ok((x, next)) => Ok((
-            placed(content(x), start),
+        Ok((p, next)) => Ok((
+            Content::Bytes(part_moved(p, start)),
             Cursor {
                 at: start + next.at,
             },
@@ -80,18 +77,36 @@ fn moved<T, F: Fn(T) -> Content>(got: Read<T>, start: usize, content: F) -> Read
     }
 }
 
-fn placed(x: Content, by: usize) -> Content
-    requires { by + place_of x < 2 ^ 64 }
-    ensures { result ≡ placed by x }
+fn number(got: Read<Part>, start: usize) -> Read<Content>
+    requires { Movable start (read_answer got then as_number) }
+    ensures { read_answer result ≡ moved start (read_answer got then as_number) }
 {
-    match x {
-        Content::Nothing => Content::Nothing,
-        Content::Text(v) => Content::Text(View {
-            part: part_moved(v.part, by),
-            sound: v.sound,
-        }),
-        Content::Number(p) => Content::Number(part_moved(p, by)),
-        Content::Bytes(p) => Content::Bytes(part_moved(p, by)),
+    match got {
+        Ok((p, next)) => Ok((
+            Content::Number(part_moved(p, start)),
+            Cursor {
+                at: start + next.at,
+            },
+        )),
+        Err(r) => cursor::refuse(r.number, start + r.place),
+    }
+}
+
+fn text(got: Read<View>, start: usize) -> Read<Content>
+    requires { Movable start (read_answer got then as_text) }
+    ensures { read_answer result ≡ moved start (read_answer got then as_text) }
+{
+    match got {
+        Ok((v, next)) => Ok((
+            Content::Text(View {
+                part: part_moved(v.part, start),
+                sound: v.sound,
+            }),
+            Cursor {
+                at: start + next.at,
+            },
+        )),
+        Err(r) => cursor::refuse(r.number, start + r.place),
     }
 }
 
@@ -112,9 +127,9 @@ fn fixed(rest: &[u8], start: usize, width: usize) -> Read<Content>
 {
     let got = BEGINNING.take_bytes(rest, width);
     if width == 16 {
-        moved(got, start, |p| Content::Bytes(p))
+        bytes(got, start)
     } else {
-        moved(got, start, |p| Content::Number(p))
+        number(got, start)
     }
 }
 
@@ -123,22 +138,14 @@ fn by_size(rest: &[u8], start: usize, code: u8, size: usize) -> Read<Content>
     ensures { read_answer result ≡ moved start (by_size_in rest.now code size) }
 {
     if takes_size(code) {
-        return moved(
-            BEGINNING.take_bytes(rest, size),
-            start,
-            |p| Content::Bytes(p),
-        );
+        return bytes(BEGINNING.take_bytes(rest, size), start);
     }
     if code == Kind::SIZE_T {
         return size_t(rest, start, size);
     }
     let width = Kind::element_width(code);
     if 0 < width {
-        return moved(
-            BEGINNING.read_array(rest, width, size),
-            start,
-            |p| Content::Bytes(p),
-        );
+        return bytes(BEGINNING.read_array(rest, width, size), start);
     }
     cursor::refuse(not_read(code), start)
 }
@@ -148,11 +155,7 @@ fn size_t(rest: &[u8], start: usize, size: usize) -> Read<Content>
     ensures { read_answer result ≡ moved start (size_t_in rest.now size) }
 {
     if size == 4 || size == 8 {
-        moved(
-            BEGINNING.take_bytes(rest, size),
-            start,
-            |p| Content::Number(p),
-        )
+        number(BEGINNING.take_bytes(rest, size), start)
     } else {
         cursor::refuse(Refusal::TYPE_NOT_READ, start)
     }

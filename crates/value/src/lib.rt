@@ -258,13 +258,20 @@ pub fn read_sized(rest: &[u8], start: usize, code: u8, size: u16) -> Read<Value>
     if room < rest.len() || room - rest.len() < size {
         return cursor::refuse(Refusal::PAST_END, start);
     }
-    let (content, next) = contents::sized(rest, start, code, size)?;
-    let v = Value {
-        code,
-        start,
-        content,
-    };
-    skip(v, next, start + rest.len(), start + size)
+    // No `?` here: it hands the content on through memory, with the unused bytes in it, and each value would wait for them.
+    match contents::sized(rest, start, code, size) {
+        Ok((content, next)) => skip(
+            Value {
+                code,
+                start,
+                content,
+            },
+            next,
+            start + rest.len(),
+            start + size,
+        ),
+        Err(r) => Err(r),
+    }
 }
 
 // Reads a value without a size at the cursor: its type, and what that reads.

@@ -11,7 +11,6 @@ use borrow.Author.Rules.{rules}
 use Rattle.cursor.specs.Answer.{◌then◌}
 use Rattle.cursor.specs.Reads.{take_at}
 use Rattle.value.specs.Value.{as_number}
-use Rattle.value.specs.declared.Content.TheVariants.{Number}
 use Rattle.value.proofs.Inside.{as_number_lem, takes, movable}
 use Rattle.value.proofs.contents.size_t.Goals as goal
 
@@ -19,10 +18,10 @@ one_of : (n : ℕ) → (n ≡ 4) ⊎ ((n ≡ 4 → ⊥) × (n ≡ 8)) → (eqb n
 one_of n (inl e) = simp (eq-eqb _ _ e)
 one_of n (inr e) = simp (ne_eqb _ _ e.0, eq-eqb _ _ e.1)
 
-pub moved-requires-clause-fits : goal.moved-requires-clause-fits
-moved-requires-clause-fits c =
+pub number-requires : goal.number-requires
+number-requires c =
     let a = c.args in
-    (λ p. Number p, λ x r e. search rules, rw c.take_bytes.ensures (movable a.start (length a.rest.now) (take_at a.rest.now 0 a.size then as_number) (as_number_lem (length a.rest.now) (take_at a.rest.now 0 a.size) (takes a.rest.now a.size)) (omega arith)))
+    rw c.take_bytes.ensures (movable a.start (length a.rest.now) (take_at a.rest.now 0 a.size then as_number) (as_number_lem (length a.rest.now) (take_at a.rest.now 0 a.size) (takes a.rest.now a.size)) (omega arith))
 
 pub returns-then-size-eq8 : goal.returns-then-size-eq8
-returns-then-size-eq8 c = simp (c.moved.ensures Number (λ x r e. search rules), c.take_bytes.ensures, one_of c.args.size c.if-size-eq8.either)
+returns-then-size-eq8 c = simp (c.number.ensures, c.take_bytes.ensures, one_of c.args.size c.if-size-eq8.either)
