@@ -97,8 +97,9 @@ pub(crate) fn number_at<N: Number>(s: &[u8], at: usize) -> N
     N::at(&filled(s, at), 0)
 }
 
-// The bytes from a position on, which are fewer than eight, and zeros behind them. (Byte by byte: a copy of so many bytes would be a call, in
-// every read whose bytes the compiler does not know to be there.)
+// The bytes from a position on, which are fewer than eight, and zeros behind them. (Byte by byte: a copy of so many bytes would need memcpy from
+// outside. A function of its own: with its eight tests in every read of a number, what reads one is too long to be compiled into its callers.)
+#[inline(never)]
 fn filled(s: &[u8], at: usize) -> [u8; 8]
     requires { length s.now < at + 8 }
     ensures { (w : ℕ) → number_of result 0 w ≡ number_of s.now at w }
